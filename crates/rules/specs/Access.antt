@@ -1,0 +1,39 @@
+-- Row access: the number that names a key, the part of the rows that a look lends, and replace.
+use Prim.Native.Nat.{ℕ, _+_, _*_}
+use mathlib.Core.List.{List, []}
+use mathlib.Core.Path.{_≡_}
+use denote.Ref.{RefT}
+use lib.Dec.{eqb}
+use Rattle.rules.specs.Choice.{pick}
+use Rattle.rules.specs.Words.{rowWords, rowAt, setRow}
+use Rattle.rules.specs.Values.{Outcome, plain, done, unless}
+use Rattle.rules.specs.Refusals.{entryNumber, sideEntryNumber, keyedNumber}
+use Rattle.rules.specs.declared.Header.{Header}
+use Rattle.rules.specs.declared.Key.{Key}
+
+-- the number of a key, 0 for a live one. hop.rs 343-348
+unfoldable pub keyNumber : List ℕ → List ℕ → Header → Key → ℕ
+keyNumber l r hd k = keyedNumber (entryNumber l r hd) l hd k
+
+-- the words of the part that a look at a key hands back: the row of a live key, else nothing. hop.rs 688-696 and 734-742
+unfoldable pub lookRule : List ℕ → List ℕ → Header → Key → List ℕ
+lookRule l r hd k = pick (eqb (keyNumber l r hd k) 0) (rowAt r (hd .used) (k .index)) []
+
+-- the word of the row table that the part starts at: eight times the slot index, and 0 for an empty part
+unfoldable pub lookStart : List ℕ → List ℕ → Header → Key → ℕ
+lookStart l r hd k = pick (eqb (keyNumber l r hd k) 0) (k .index * rowWords) 0
+
+-- the bytes of a word; part points at word w of what whole points at
+abbrev pub wordBytes : ℕ
+wordBytes = 4
+
+abbrev pub startsAt : RefT (List ℕ) → RefT (List ℕ) → ℕ → Type 0
+startsAt part whole w = part .ptr ≡ (whole .ptr .0, w * wordBytes + whole .ptr .1)
+
+-- replace copies eight words in from a side buffer
+unfoldable pub replaceNumber : List ℕ → List ℕ → Header → Key → List ℕ → ℕ
+replaceNumber l r hd k side = keyedNumber (sideEntryNumber l r hd side rowWords) l hd k
+
+unfoldable pub replaceRule : List ℕ → List ℕ → Header → Key → List ℕ → Outcome
+replaceRule l r hd k side =
+    unless l r hd (replaceNumber l r hd k side) (plain done hd l (setRow r (k .index) side))

@@ -1,0 +1,99 @@
+-- The bench: a script of steps, run by the rules over tables of meaningless words, and what it replies.
+use Prim.Native.Nat.{ℕ, _*_}
+use mathlib.Core.List.{List, [], _∷_, map}
+use lib.ListN.{replicate, take}
+use Rattle.rules.specs.Words.{linkWords, rowWords, nextAt, otherEndAt, versionAt, setVersion}
+use Rattle.rules.specs.Values.{Values, Outcome}
+use Rattle.rules.specs.Start.{startRule}
+use Rattle.rules.specs.Insert.{insertRule}
+use Rattle.rules.specs.Remove.{removeRule}
+use Rattle.rules.specs.Hop.{hopRule}
+use Rattle.rules.specs.Clear.{clearRule}
+use Rattle.rules.specs.Rebuild.{rebuildRule}
+use Rattle.rules.specs.declared.Header.{Header}
+use Rattle.rules.specs.declared.Key.{Key}
+
+-- a call, a version written by the caller before a rebuild, or a look at words and header
+pub data Step : Type 0 where
+  start : Step
+  insert : ℕ → Step
+  remove : ℕ → ℕ → Step
+  clear : Step
+  hop : ℕ → Step
+  rebuild : List ℕ → Step
+  write-version : ℕ → ℕ → Step
+  see-used : Step
+  see-version : ℕ → Step
+  see-next : ℕ → Step
+  see-other-end : ℕ → Step
+  see-links : Step
+
+pub data Reply : Type 0 where
+  says : Values → List ℕ → Reply
+  shows : List ℕ → Reply
+
+pub record Lent : Type 0 where
+  pub links : List ℕ
+  pub rows : List ℕ
+  pub header : Header
+
+pub record Case : Type 0 where
+  pub lent : ℕ
+  pub script : List (Step × Reply)
+
+-- the word that the tables lent hold everywhere
+abbrev pub unset : ℕ
+unset = 9
+
+-- tables of such words, and a header that does not fit them
+abbrev pub lend : ℕ → Lent
+lend n =
+    record {
+      links = replicate (n * linkWords) unset;
+      rows = replicate (n * rowWords) unset;
+      header = record { used = 0; live = 77 };
+    }
+
+-- the row of the nth buoy
+abbrev pub buoy : ℕ → List ℕ
+buoy n = n ∷ 20 ∷ 30 ∷ 40 ∷ 50 ∷ 60 ∷ 70 ∷ 80 ∷ []
+
+abbrev pub key : ℕ → ℕ → Key
+key i v = record { index = i; version = v }
+
+abbrev told : Outcome → Reply × Lent
+told o = (says (o .answer) (o .row), record { links = o .links; rows = o .rows; header = o .header })
+
+abbrev seen : Lent → List ℕ → Reply × Lent
+seen s words = (shows words, s)
+
+abbrev act : Step → Lent → Reply × Lent
+act start s = told (startRule (s .links) (s .rows) (s .header))
+act (insert n) s = told (insertRule (s .links) (s .rows) (s .header) (buoy n))
+act (remove i v) s = told (removeRule (s .links) (s .rows) (s .header) (key i v))
+act clear s = told (clearRule (s .links) (s .rows) (s .header))
+act (hop c) s = told (hopRule (s .links) (s .rows) (s .header) c)
+act (rebuild bytes) s = told (rebuildRule (s .links) (s .rows) (s .header) bytes)
+act (write-version i v) s =
+    (shows [], record { links = setVersion (s .links) i v; rows = s .rows; header = s .header })
+act see-used s = seen s (s .header .used ∷ [])
+act (see-version i) s = seen s (versionAt (s .links) (s .header .used) i ∷ [])
+act (see-next i) s = seen s (nextAt (s .links) (s .header .used) i ∷ [])
+act (see-other-end i) s = seen s (otherEndAt (s .links) (s .header .used) i ∷ [])
+act see-links s = seen s (take (s .header .used * linkWords) (s .links))
+
+abbrev run : List (Step × Reply) → Lent → List Reply
+run [] s = []
+run (x ∷ xs) s =
+    let y = act (x .0) s in
+    y .0 ∷ run xs (y .1)
+
+abbrev beside : Step × Reply → Reply
+beside x = x .1
+
+-- what a case replies, and what stands beside its steps
+abbrev pub replied : Case → List Reply
+replied x = run (x .script) (lend (x .lent))
+
+abbrev pub wanted : Case → List Reply
+wanted x = map beside (x .script)

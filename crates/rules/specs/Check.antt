@@ -1,0 +1,41 @@
+-- The soundness check: a test of Sound that can be carried out, in passes over the slots below used and one along the chain.
+use Prim.Native.Nat.{ℕ, zero, suc}
+use mathlib.Core.List.{List}
+use mathlib.Core.Bool.{Bool, false, not}
+use lib.Dec.{eqb}
+use Rattle.rules.specs.Choice.{pick, both, either, allBelow}
+use Rattle.rules.specs.Words.{versionAt, nextAt, prevAt, otherEndAt, isEven}
+use Rattle.rules.specs.Values.{Outcome, plain, done, unless}
+use Rattle.rules.specs.Refusals.{_▸_, damaged, entryNumber}
+use Rattle.rules.specs.Runs.{isFront, isBack, frontOf, runCount, oddCount}
+use Rattle.rules.specs.declared.Header.{Header}
+
+-- at each run's front other_end is its back, and at its back other_end is its front
+unfoldable pub endsTest : List ℕ → ℕ → Bool
+endsTest l used =
+    allBelow used
+    (λ i.
+    either (not (isBack l used i))
+    (both (eqb (otherEndAt l used (frontOf l used i)) i) (eqb (otherEndAt l used i) (frontOf l used i))))
+
+-- from slot x next comes to 0 in n steps and no sooner, over fronts alone, and prev undoes each step
+unfoldable pub circleTest : List ℕ → ℕ → ℕ → ℕ → Bool
+circleTest l used zero x = false
+circleTest l used (suc n) x =
+    let y = nextAt l used x in
+    both (both (isFront l used y) (eqb (prevAt l used y) x))
+    (pick (eqb y 0) (eqb n 0) (circleTest l used n y))
+
+unfoldable pub soundTest : List ℕ → Header → Bool
+soundTest l hd =
+    both (isEven (versionAt l (hd .used) 0))
+    (both (eqb (hd .live) (oddCount l (hd .used)))
+    (both (endsTest l (hd .used)) (circleTest l (hd .used) (runCount l (hd .used)) 0)))
+
+-- the whole soundness check, after the number so far
+unfoldable pub soundNumber : ℕ → List ℕ → Header → ℕ
+soundNumber k l hd = k ▸ (not (soundTest l hd), damaged)
+
+-- soundness check: accepts exactly the sound tables, else 2
+unfoldable pub checkRule : List ℕ → List ℕ → Header → Outcome
+checkRule l r hd = unless l r hd (soundNumber (entryNumber l r hd) l hd) (plain done hd l r)

@@ -1,0 +1,20 @@
+-- Document 01 as definitions, to be read beside it, in this order.
+pub mod Choice
+pub mod Words
+pub mod Headers
+pub mod Values
+pub mod Refusals
+pub mod Start
+pub mod Access
+pub mod Insert
+pub mod Remove
+pub mod Runs
+pub mod Hop
+pub mod Drain
+pub mod Sound
+pub mod Check
+pub mod Clear
+pub mod Retain
+pub mod Rebuild
+pub mod Bench
+pub mod Cases

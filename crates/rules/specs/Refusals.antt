@@ -1,0 +1,98 @@
+-- The numbers given when a call is turned down: by name, and as chains in document 01's order.
+-- Each segment takes the number so far; the first test that holds gives the number.
+use Prim.Native.Nat.{ℕ, _-_, _/_, _%_}
+use mathlib.Core.List.{List}
+use mathlib.Core.Bool.{Bool, not}
+use lib.ListN.{length}
+use lib.Dec.{ltb, eqb}
+use Rattle.rules.specs.Choice.{pick, both}
+use Rattle.rules.specs.Words.{limit, linkWords, rowWords, lentOf, isOdd, isEven, versionAt, vacantAt}
+use Rattle.rules.specs.declared.Header.{Header}
+use Rattle.rules.specs.declared.Key.{Key}
+
+abbrev pub shape : ℕ
+shape = 1
+
+abbrev pub damaged : ℕ
+damaged = 2
+
+abbrev pub evenVersion : ℕ
+evenVersion = 3
+
+abbrev pub notLive : ℕ
+notLive = 4
+
+abbrev pub full : ℕ
+full = 5
+
+abbrev pub staleCursor : ℕ
+staleCursor = 6
+
+abbrev pub wrongPresence : ℕ
+wrongPresence = 7
+
+abbrev pub zeroOccupied : ℕ
+zeroOccupied = 8
+
+-- what a chain starts with: no number
+abbrev pub passes : ℕ
+passes = 0
+
+-- one more test: the number that there is stays; where there is none, that of the test if it holds
+infixl 20 _▸_
+unfoldable pub _▸_ : ℕ → Bool × ℕ → ℕ
+k ▸ c = pick (eqb k 0) (pick (c .0) (c .1) 0) k
+
+-- 1: link words not 4 per slot, row words not 8, slot counts differ, lent count 0 or over 4,096
+unfoldable pub lentNumber : ℕ → ℕ → ℕ
+lentNumber links rows =
+    passes
+    ▸ (not (eqb (links % linkWords) 0), shape)
+    ▸ (not (eqb (rows % rowWords) 0), shape)
+    ▸ (not (eqb (links / linkWords) (rows / rowWords)), shape)
+    ▸ (eqb (links / linkWords) 0, shape)
+    ▸ (ltb limit (links / linkWords), shape)
+
+-- 1: used 0 or over lent, live over used − 1
+unfoldable pub headerNumber : ℕ → ℕ → Header → ℕ
+headerNumber k lent hd =
+    k
+    ▸ (eqb (hd .used) 0, shape)
+    ▸ (ltb lent (hd .used), shape)
+    ▸ (ltb (hd .used - 1) (hd .live), shape)
+
+-- the shape of what is lent and of the header whole
+unfoldable pub shapeNumber : List ℕ → List ℕ → Header → ℕ
+shapeNumber l r hd = headerNumber (lentNumber (length l) (length r)) (lentOf l) hd
+
+-- 1: a side buffer of the wrong length
+unfoldable pub sideNumber : ℕ → List ℕ → ℕ → ℕ
+sideNumber k side n = k ▸ (not (eqb (length side) n), shape)
+
+-- 2: slot 0 odd
+unfoldable pub zeroNumber : ℕ → List ℕ → Header → ℕ
+zeroNumber k l hd = k ▸ (isOdd (versionAt l (hd .used) 0), damaged)
+
+-- a key is live when the index is below used and the version is odd and equals the slot's
+unfoldable pub liveKey : List ℕ → Header → Key → Bool
+liveKey l hd k =
+    both (ltb (k .index) (hd .used))
+    (both (isOdd (k .version)) (eqb (versionAt l (hd .used) (k .index)) (k .version)))
+
+-- 3: key with an even version; 4: key not live
+unfoldable pub keyedNumber : ℕ → List ℕ → Header → Key → ℕ
+keyedNumber k l hd key =
+    k
+    ▸ (isEven (key .version), evenVersion)
+    ▸ (not (liveKey l hd key), notLive)
+
+-- what a call without a side buffer tests before anything else, and what one with a side buffer of n words or bytes does
+unfoldable pub entryNumber : List ℕ → List ℕ → Header → ℕ
+entryNumber l r hd = zeroNumber (shapeNumber l r hd) l hd
+
+unfoldable pub sideEntryNumber : List ℕ → List ℕ → Header → List ℕ → ℕ → ℕ
+sideEntryNumber l r hd side n = zeroNumber (sideNumber (shapeNumber l r hd) side n) l hd
+
+-- a link that is followed must be below used and its slot vacant
+abbrev pub astray : List ℕ → ℕ → ℕ → Bool
+astray l used i = not (vacantAt l used i)

@@ -1,0 +1,101 @@
+-- Remove. hop.rs 492-556 (the slot) and 570-578 (the key)
+use Prim.Native.Nat.{ℕ, _+_, _-_}
+use mathlib.Core.List.{List}
+use mathlib.Core.Bool.{Bool, not}
+use lib.Dec.{ltb, eqb}
+use Rattle.rules.specs.Choice.{pick, both}
+use Rattle.rules.specs.Words.{rise, versionAt, nextAt, prevAt, otherEndAt, setVersion, setNext, setPrev, setOtherEnd, noRow, rowAt, setRow, vacantAt}
+use Rattle.rules.specs.Headers.{oneLess}
+use Rattle.rules.specs.Values.{Outcome, keyed, unless}
+use Rattle.rules.specs.Refusals.{_▸_, passes, damaged, astray}
+use Rattle.rules.specs.Access.{keyNumber}
+use Rattle.rules.specs.declared.Header.{Header}
+use Rattle.rules.specs.declared.Key.{Key}
+
+-- the slots beside slot i, and whether each is vacant: left is i − 1, right is i + 1 if below used
+pub record Beside : Type 0 where
+  pub left : ℕ
+  pub right : ℕ
+  pub leftVacant : Bool
+  pub rightVacant : Bool
+
+abbrev pub beside : List ℕ → ℕ → ℕ → Beside
+beside l used i =
+    record {
+      left = i - 1;
+      right = i + 1;
+      leftVacant = vacantAt l used (i - 1);
+      rightVacant = vacantAt l used (i + 1);
+    }
+
+-- live ≥ 1; each of t, f, n, p and e, where the case uses it, below used and vacant; f ≤ i − 1; e ≥ i + 1
+unfoldable pub removeNumber : List ℕ → Header → Beside → ℕ
+removeNumber l hd x =
+    passes
+    ▸ (eqb (hd .live) 0, damaged)
+    ▸ (both (not (x .leftVacant)) (both (not (x .rightVacant)) (astray l (hd .used) (prevAt l (hd .used) 0))), damaged)
+    ▸ (both (x .leftVacant) (astray l (hd .used) (otherEndAt l (hd .used) (x .left))), damaged)
+    ▸ (both (x .leftVacant) (ltb (x .left) (otherEndAt l (hd .used) (x .left))), damaged)
+    ▸ (both (x .rightVacant) (astray l (hd .used) (nextAt l (hd .used) (x .right))), damaged)
+    ▸ (both (x .rightVacant) (astray l (hd .used) (prevAt l (hd .used) (x .right))), damaged)
+    ▸ (both (x .rightVacant) (astray l (hd .used) (otherEndAt l (hd .used) (x .right))), damaged)
+    ▸ (both (x .rightVacant) (ltb (otherEndAt l (hd .used) (x .right)) (x .right)), damaged)
+
+-- neither vacant: with t = prev(0), prev(0) and next(t) become i; slot i gets other_end i, next 0, prev t
+unfoldable pub setApart : List ℕ → ℕ → ℕ → List ℕ
+setApart l used i =
+    let t = prevAt l used 0 in
+    setPrev (setNext (setOtherEnd (setNext (setPrev l 0 i) t i) i i) i 0) i t
+
+-- right only: with the front data of i + 1 (next n, prev p, other_end e), other_end(e), next(p) and prev(n) become i,
+-- then slot i gets that data
+unfoldable pub joinRight : List ℕ → ℕ → ℕ → ℕ → List ℕ
+joinRight l used i right =
+    let n = nextAt l used right in
+    let p = prevAt l used right in
+    let e = otherEndAt l used right in
+    setOtherEnd (setPrev (setNext (setPrev (setNext (setOtherEnd l e i) p i) n i) i n) i p) i e
+
+-- left only: with f = other_end(i − 1), other_end(i) becomes f, other_end(f) becomes i
+unfoldable pub joinLeft : List ℕ → ℕ → ℕ → ℕ → List ℕ
+joinLeft l used i left =
+    let f = otherEndAt l used left in
+    setOtherEnd (setOtherEnd l i f) f i
+
+-- both: next(p) becomes n, prev(n) becomes p for the right run; then other_end(f) becomes e, other_end(e) becomes f
+unfoldable pub joinBoth : List ℕ → ℕ → ℕ → ℕ → List ℕ
+joinBoth l used left right =
+    let f = otherEndAt l used left in
+    let n = nextAt l used right in
+    let p = prevAt l used right in
+    let e = otherEndAt l used right in
+    setOtherEnd (setOtherEnd (setPrev (setNext l p n) n p) f e) e f
+
+-- all links are read as they stood at the call, then written in this order
+unfoldable pub freed : List ℕ → ℕ → ℕ → Beside → List ℕ
+freed l used i x =
+    pick (x .leftVacant)
+    (pick (x .rightVacant) (joinBoth l used (x .left) (x .right)) (joinLeft l used i (x .left)))
+    (pick (x .rightVacant) (joinRight l used i (x .right)) (setApart l used i))
+
+-- the row comes back and becomes zero; the version rises by one; live falls by 1.
+-- No link written is a version, so the version may be written last
+unfoldable pub removeStep : List ℕ → List ℕ → Header → Key → Beside → Outcome
+removeStep l r hd k x =
+    record {
+      answer = keyed k;
+      row = rowAt r (hd .used) (k .index);
+      header = oneLess hd;
+      links = setVersion (freed l (hd .used) (k .index) x) (k .index) (rise (versionAt l (hd .used) (k .index)));
+      rows = setRow r (k .index) noRow;
+    }
+
+unfoldable pub removeBy : List ℕ → List ℕ → Header → Key → Beside → Outcome
+removeBy l r hd k x = unless l r hd (removeNumber l hd x) (removeStep l r hd k x)
+
+-- the removal of an occupied slot that is in use, under its key
+unfoldable pub removeSlot : List ℕ → List ℕ → Header → Key → Outcome
+removeSlot l r hd k = removeBy l r hd k (beside l (hd .used) (k .index))
+
+unfoldable pub removeRule : List ℕ → List ℕ → Header → Key → Outcome
+removeRule l r hd k = unless l r hd (keyNumber l r hd k) (removeSlot l r hd k)
