@@ -1,1 +1,7 @@
+-- Laws of the rules.
+pub mod Chains
+pub mod Shape
+pub mod Settled
+pub mod Agree
+pub mod NeverRead
 mod Bench

@@ -3,6 +3,7 @@ use Prim.Native.Nat.{ℕ, _+_, _*_}
 use mathlib.Core.List.{List, []}
 use mathlib.Core.Path.{_≡_}
 use denote.Ref.{RefT}
+use lib.ListN.{length}
 use lib.Dec.{eqb}
 use Rattle.rules.specs.Choice.{pick}
 use Rattle.rules.specs.Words.{rowWords, rowAt, setRow}
@@ -30,9 +31,14 @@ wordBytes = 4
 abbrev pub startsAt : RefT (List ℕ) → RefT (List ℕ) → ℕ → Type 0
 startsAt part whole w = part .ptr ≡ (whole .ptr .0, w * wordBytes + whole .ptr .1)
 
+-- what a look promises of its part: the words, where they lie in the row table
+pub record Lies (l : List ℕ) (rows : RefT (List ℕ)) (hd : Header) (k : Key) (part : RefT (List ℕ)) : Type 0 where
+  pub words : part .now ≡ lookRule l (rows .now) hd k
+  pub place : startsAt part rows (lookStart l (rows .now) hd k)
+
 -- replace copies eight words in from a side buffer
 unfoldable pub replaceNumber : List ℕ → List ℕ → Header → Key → List ℕ → ℕ
-replaceNumber l r hd k side = keyedNumber (sideEntryNumber l r hd side rowWords) l hd k
+replaceNumber l r hd k side = keyedNumber (sideEntryNumber l r hd (length side) rowWords) l hd k
 
 unfoldable pub replaceRule : List ℕ → List ℕ → Header → Key → List ℕ → Outcome
 replaceRule l r hd k side =

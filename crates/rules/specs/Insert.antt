@@ -2,6 +2,7 @@
 use Prim.Native.Nat.{ℕ, _-_}
 use mathlib.Core.List.{List}
 use mathlib.Core.Bool.{Bool, not}
+use lib.ListN.{length}
 use lib.Dec.{ltb, eqb}
 use Rattle.rules.specs.Choice.{pick, both}
 use Rattle.rules.specs.Words.{rowWords, lentOf, withBit, versionAt, nextAt, otherEndAt, setVersion, setNext, setPrev, setOtherEnd, newSlot, setRow}
@@ -45,7 +46,7 @@ takeNumber k l hd x =
     ▸ (both (eqb (x .b) 0) (eqb (hd .used) (lentOf l)), full)
 
 unfoldable pub insertNumber : List ℕ → List ℕ → Header → List ℕ → InsertLinks → ℕ
-insertNumber l r hd side x = takeNumber (runNumber (sideEntryNumber l r hd side rowWords) l hd x) l hd x
+insertNumber l r hd side x = takeNumber (runNumber (sideEntryNumber l r hd (length side) rowWords) l hd x) l hd x
 
 -- b = 0: slot used gets version 1, zero links and the row, and used grows by 1
 unfoldable pub takeNew : List ℕ → List ℕ → Header → List ℕ → Outcome

@@ -16,5 +16,6 @@ pub mod Check
 pub mod Clear
 pub mod Retain
 pub mod Rebuild
+pub mod NeverRead
 pub mod Bench
 pub mod Cases

@@ -65,9 +65,9 @@ headerNumber k lent hd =
 unfoldable pub shapeNumber : List ℕ → List ℕ → Header → ℕ
 shapeNumber l r hd = headerNumber (lentNumber (length l) (length r)) (lentOf l) hd
 
--- 1: a side buffer of the wrong length
-unfoldable pub sideNumber : ℕ → List ℕ → ℕ → ℕ
-sideNumber k side n = k ▸ (not (eqb (length side) n), shape)
+-- 1: a side buffer of the wrong length, where n is the right one
+unfoldable pub sideNumber : ℕ → ℕ → ℕ → ℕ
+sideNumber k side n = k ▸ (not (eqb side n), shape)
 
 -- 2: slot 0 odd
 unfoldable pub zeroNumber : ℕ → List ℕ → Header → ℕ
@@ -86,11 +86,11 @@ keyedNumber k l hd key =
     ▸ (isEven (key .version), evenVersion)
     ▸ (not (liveKey l hd key), notLive)
 
--- what a call without a side buffer tests before anything else, and what one with a side buffer of n words or bytes does
+-- what a call without a side buffer tests before anything else, and what one with a side buffer does
 unfoldable pub entryNumber : List ℕ → List ℕ → Header → ℕ
 entryNumber l r hd = zeroNumber (shapeNumber l r hd) l hd
 
-unfoldable pub sideEntryNumber : List ℕ → List ℕ → Header → List ℕ → ℕ → ℕ
+unfoldable pub sideEntryNumber : List ℕ → List ℕ → Header → ℕ → ℕ → ℕ
 sideEntryNumber l r hd side n = zeroNumber (sideNumber (shapeNumber l r hd) side n) l hd
 
 -- a link that is followed must be below used and its slot vacant

@@ -2,7 +2,7 @@
 use Prim.Native.Nat.{ℕ, zero, suc, _+_}
 use mathlib.Core.List.{List}
 use mathlib.Core.Bool.{Bool}
-use lib.ListN.{getD}
+use lib.ListN.{length, getD}
 use lib.Dec.{eqb}
 use Rattle.rules.specs.Choice.{pick, both}
 use Rattle.rules.specs.Words.{occupiedAt, keyAt}
@@ -29,7 +29,7 @@ abbrev pub struckBy : List ℕ → ℕ → Bool
 struckBy bytes i = eqb (getD bytes i 0) 0
 
 unfoldable pub retainNumber : List ℕ → List ℕ → Header → List ℕ → ℕ
-retainNumber l r hd bytes = soundNumber (sideEntryNumber l r hd bytes (hd .used)) l hd
+retainNumber l r hd bytes = soundNumber (sideEntryNumber l r hd (length bytes) (hd .used)) l hd
 
 unfoldable pub retainRule : List ℕ → List ℕ → Header → List ℕ → Outcome
 retainRule l r hd bytes =

@@ -1,0 +1,127 @@
+-- Slots from used upward are never read: the law of specs/NeverRead for each call. Assumes nothing.
+use Prim.Native.Nat.{ℕ, _+_, _-_, _*_, _≤_}
+use mathlib.Core.List.{List, []}
+use mathlib.Core.Bool.{Bool, true, false, not}
+use mathlib.Core.Path.{_≡_, refl, sym, ap, subst, _∙_}
+use native.Mathlib.Omega.{arith}
+use lib.ListN.{length}
+use lib.Dec.{eqb, ltb}
+use borrow.Author.Tests.{eqb-true}
+use Rattle.rules.specs.Choice.{pick, both}
+use Rattle.rules.specs.Words.{linkWords, rowWords, lentOf, versionAt, versionWord, linkAt, isOdd, isEven, newSlot, setRow, noRow, rowAt}
+use Rattle.rules.specs.Headers.{fresh}
+use Rattle.rules.specs.Values.{Outcome, plain, done, counted, refusal, unless}
+use Rattle.rules.specs.Refusals.{_▸_, damaged, evenVersion, notLive, lentNumber, headerNumber, shapeNumber, sideNumber, zeroNumber, liveKey, keyedNumber, entryNumber, sideEntryNumber}
+use Rattle.rules.specs.Start.{startRule, roomRule}
+use Rattle.rules.specs.Access.{keyNumber, lookRule, lookStart, replaceNumber, replaceRule}
+use Rattle.rules.specs.NeverRead.{AgreeTo, AgreeBelow, Alike, NeverReads, AnswersAlike}
+use Rattle.rules.specs.declared.Header.{Header}
+use Rattle.rules.specs.declared.Key.{Key}
+use Rattle.rules.proofs.Agree.{same-link, same-row, row-agrees, slot-filled, row-filled}
+use Rattle.rules.proofs.Shape.{Lent, lent}
+
+-- one number, and one step where it is 0: the rule reads no more than they do
+pub unless-alike : (m : ℕ) (l l′ r r′ : List ℕ) (hd : Header) → AgreeBelow m l l′ r r′ → (n n′ : ℕ) → n ≡ n′ →
+    (o o′ : Outcome) → (n ≡ 0 → Alike m o o′) → Alike m (unless l r hd n o) (unless l′ r′ hd n′ o′)
+unfolding unless
+unless-alike m l l′ r r′ hd g n n′ e o o′ h =
+    subst (λ (k : ℕ). Alike m (pick (eqb n 0) o (refusal l r hd n)) (pick (eqb k 0) o′ (refusal l′ r′ hd k))) e (at (eqb n 0) (eqb-true n 0))
+  where
+    at : (t : Bool) → (t ≡ true → n ≡ 0) → Alike m (pick t o (refusal l r hd n)) (pick t o′ (refusal l′ r′ hd n))
+    at true j = h (j refl)
+    at false j = record { answer = refl; row = refl; header = refl; tables = g }
+
+-- the tests at a call's entry read slot 0 and the key's slot alone
+module _ (hd : Header) (l l′ r r′ : List ℕ) (g : AgreeBelow (hd .used) l l′ r r′) where
+  same-version : (i : ℕ) → versionAt l (hd .used) i ≡ versionAt l′ (hd .used) i
+  same-version i = same-link (hd .used) l l′ (g .links) i versionWord (omega arith)
+
+  same-shape : shapeNumber l r hd ≡ shapeNumber l′ r′ hd
+  unfolding shapeNumber
+  same-shape = simp (g .links .lengths, g .rows .lengths)
+
+  same-zero : (k : ℕ) → zeroNumber k l hd ≡ zeroNumber k l′ hd
+  unfolding zeroNumber
+  same-zero k = ap (λ (v : ℕ). k ▸ (isOdd v, damaged)) (same-version 0)
+
+  pub same-entry : entryNumber l r hd ≡ entryNumber l′ r′ hd
+  unfolding entryNumber
+  same-entry = same-zero (shapeNumber l r hd) ∙ ap (λ (k : ℕ). zeroNumber k l′ hd) same-shape
+
+  pub same-side-entry : (side n : ℕ) → sideEntryNumber l r hd side n ≡ sideEntryNumber l′ r′ hd side n
+  unfolding sideEntryNumber
+  same-side-entry side n =
+      same-zero (sideNumber (shapeNumber l r hd) side n) ∙ ap (λ (k : ℕ). zeroNumber (sideNumber k side n) l′ hd) same-shape
+
+  pub same-keyed : (k : ℕ) (key : Key) → keyedNumber k l hd key ≡ keyedNumber k l′ hd key
+  unfolding keyedNumber liveKey
+  same-keyed k key =
+      ap
+      (λ (v : ℕ).
+      k ▸ (isEven (key .version), evenVersion)
+      ▸ (not (both (ltb (key .index) (hd .used)) (both (isOdd (key .version)) (eqb v (key .version)))), notLive))
+      (same-version (key .index))
+
+  pub same-key : (key : Key) → keyNumber l r hd key ≡ keyNumber l′ r′ hd key
+  unfolding keyNumber
+  same-key key = same-keyed (entryNumber l r hd) key ∙ ap (λ (k : ℕ). keyedNumber k l′ hd key) same-entry
+
+pub start-never-reads : (hd : Header) → NeverReads 0 (λ l r. startRule l r hd)
+unfolding startRule
+start-never-reads hd =
+    record {
+      alike = λ l l′ r r′ g.
+          unless-alike 0 l l′ r r′ hd g _ _ (simp (g .links .lengths, g .rows .lengths)) _ _
+          (λ e.
+          let s = lent _ _ e in
+          record {
+            answer = refl;
+            row = refl;
+            header = refl;
+            tables =
+                record {
+                  links = slot-filled 0 l l′ (g .links) 0;
+                  rows = row-filled 0 r r′ noRow (g .rows) refl (omega (arith, s .row-words, s .some));
+                };
+          });
+    }
+
+pub room-never-reads : (hd : Header) → NeverReads (hd .used) (λ l r. roomRule l r hd)
+unfolding roomRule
+room-never-reads hd =
+    record {
+      alike = λ l l′ r r′ g.
+          unless-alike (hd .used) l l′ r r′ hd g _ _ (same-entry hd l l′ r r′ g) _ _
+          (λ e. record { answer = simp (g .links .lengths); row = refl; header = refl; tables = g });
+    }
+
+pub key-number-never-reads : (hd : Header) (k : Key) → AnswersAlike (hd .used) (λ l r. keyNumber l r hd k)
+key-number-never-reads hd k = record { alike = λ l l′ r r′ g. same-key hd l l′ r r′ g k }
+
+pub look-never-reads : (hd : Header) (k : Key) → AnswersAlike (hd .used) (λ l r. lookRule l r hd k)
+unfolding lookRule
+look-never-reads hd k =
+    record {
+      alike = λ l l′ r r′ g.
+          simp (same-key hd l l′ r r′ g k, same-row (hd .used) r r′ (g .rows) (k .index));
+    }
+
+pub look-start-never-reads : (hd : Header) (k : Key) → AnswersAlike (hd .used) (λ l r. lookStart l r hd k)
+unfolding lookStart
+look-start-never-reads hd k = record { alike = λ l l′ r r′ g. simp (same-key hd l l′ r r′ g k) }
+
+pub replace-never-reads : (hd : Header) (k : Key) (side : List ℕ) → NeverReads (hd .used) (λ l r. replaceRule l r hd k side)
+unfolding replaceRule replaceNumber
+replace-never-reads hd k side =
+    record {
+      alike = λ l l′ r r′ g.
+          unless-alike (hd .used) l l′ r r′ hd g _ _
+          (same-keyed hd l l′ r r′ g _ k ∙ ap (λ (n : ℕ). keyedNumber n l′ hd k) (same-side-entry hd l l′ r r′ g (length side) rowWords)) _ _
+          (λ e.
+          record {
+            answer = refl;
+            row = refl;
+            header = refl;
+            tables = record { links = g .links; rows = row-agrees _ r r′ (g .rows) (k .index) side };
+          });
+    }

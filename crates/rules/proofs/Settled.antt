@@ -1,0 +1,187 @@
+-- No two different outcomes meet one promise. A promise is one equation of the whole outcome, and an outcome's values are
+-- those of no other answer. One law, and a line for each struct that a call hands back. Side buffers are lent by `&`, and so
+-- stay as they were: no promise needs to say it. Assumes nothing.
+use Prim.Native.Nat.{ℕ}
+use mathlib.Core.List.{List}
+use mathlib.Core.Bool.{Bool, true, false}
+use mathlib.Core.Path.{_≡_, refl, sym, ap, _∙_}
+use denote.Ref.{RefT}
+use lib.Dec.{eqb}
+use borrow.Author.Tests.{eqb-true}
+use Rattle.rules.specs.Choice.{pick}
+use Rattle.rules.specs.Values.{Kind, gives, ends, refuses, Values, ofKey, ofHop, ofDrain, ofClear, ofCount, ofNumber, done, refused, Outcome, plain, numbered, inserted, removed, hopped, drained, cleared, retained, roomed}
+use Rattle.rules.specs.Start.{startRule, roomRule}
+use Rattle.rules.specs.Access.{keyNumber, replaceRule, Lies}
+use Rattle.rules.specs.declared.Header.{Header}
+use Rattle.rules.specs.declared.Key.{Key}
+use Rattle.rules.specs.declared.KeyAnswer.{KeyAnswer}
+use Rattle.rules.specs.declared.HopAnswer.{HopAnswer}
+use Rattle.rules.specs.declared.DrainAnswer.{DrainAnswer}
+use Rattle.rules.specs.declared.ClearAnswer.{ClearAnswer}
+use Rattle.rules.specs.declared.CountAnswer.{CountAnswer}
+use Rattle.rules.specs.declared.Numbered.{Numbered}
+use Rattle.rules.specs.declared.Inserted.{Inserted}
+use Rattle.rules.specs.declared.Removed.{Removed}
+use Rattle.rules.specs.declared.Hopped.{Hopped}
+use Rattle.rules.specs.declared.Drained.{Drained}
+use Rattle.rules.specs.declared.Cleared.{Cleared}
+use Rattle.rules.specs.declared.Retained.{Retained}
+use Rattle.rules.specs.declared.Roomed.{Roomed}
+
+-- a struct can be read back from the outcome that it stands for beside the tables
+pub record Readable (A : Type 0) (view : A → List ℕ → List ℕ → Outcome) : Type 0 where
+  pub unview : Outcome → A
+  pub back : (x : A) (l r : List ℕ) → unview (view x l r) ≡ x
+  pub links : (x : A) (l r : List ℕ) → view x l r .links ≡ l
+  pub rows : (x : A) (l r : List ℕ) → view x l r .rows ≡ r
+
+-- what is handed back and both tables at exit are settled by the outcome
+abbrev pub OneOutcome : {A : Type 0} → (A → List ℕ → List ℕ → Outcome) → Outcome → Type 0
+OneOutcome {A} view o =
+    (x y : A) (l m r s : List ℕ) → view x l r ≡ o → view y m s ≡ o → (x ≡ y) × (l ≡ m) × (r ≡ s)
+
+pub settled : {A : Type 0} (view : A → List ℕ → List ℕ → Outcome) → Readable A view → (o : Outcome) → OneOutcome view o
+settled view v o x y l m r s p q =
+    let e = p ∙ sym q in (
+      sym (v .back x l r) ∙ ap (v .unview) e ∙ v .back y m s,
+      sym (v .links x l r) ∙ ap (λ (w : Outcome). w .links) e ∙ v .links y m s,
+      sym (v .rows x l r) ∙ ap (λ (w : Outcome). w .rows) e ∙ v .rows y m s,
+    )
+
+-- a struct of an answer and a header, and one with a row between them
+module _ {A B : Type 0} (of : B → Values) (un : Values → B) (un-of : (b : B) → un (of b) ≡ b) (answer : A → B) (header : A → Header) where
+  with-header : (make : B → Header → A) → ((x : A) → make (answer x) (header x) ≡ x) →
+      Readable A (λ x l r. plain (of (answer x)) (header x) l r)
+  with-header make made =
+      record {
+        unview = λ o. make (un (o .answer)) (o .header);
+        back = λ x l r. ap (λ b. make b (header x)) (un-of (answer x)) ∙ made x;
+        links = λ x l r. refl;
+        rows = λ x l r. refl;
+      }
+
+  with-row : (row : A → List ℕ) (make : B → List ℕ → Header → A) → ((x : A) → make (answer x) (row x) (header x) ≡ x) →
+      Readable A (λ x l r. record { answer = of (answer x); row = row x; header = header x; links = l; rows = r })
+  with-row row make made =
+      record {
+        unview = λ o. make (un (o .answer)) (o .row) (o .header);
+        back = λ x l r. ap (λ b. make b (row x) (header x)) (un-of (answer x)) ∙ made x;
+        links = λ x l r. refl;
+        rows = λ x l r. refl;
+      }
+
+-- one of three, by the kind
+abbrev among : {A : Type 0} → Kind → A → A → A → A
+among gives a b c = a
+among ends a b c = b
+among refuses a b c = c
+
+abbrev keyOf : Values → KeyAnswer
+keyOf v = among (v .kind) (KeyAnswer.Keyed (v .key)) (KeyAnswer.Refused 0) (KeyAnswer.Refused (v .number))
+
+key-back : (a : KeyAnswer) → keyOf (ofKey a) ≡ a
+key-back (KeyAnswer.Keyed k) = refl
+key-back (KeyAnswer.Refused n) = refl
+
+abbrev hopOf : Values → HopAnswer
+hopOf v = among (v .kind) (HopAnswer.Visited (v .key) (v .cursor)) HopAnswer.Done (HopAnswer.Refused (v .number))
+
+hop-back : (a : HopAnswer) → hopOf (ofHop a) ≡ a
+hop-back (HopAnswer.Visited k c) = refl
+hop-back HopAnswer.Done = refl
+hop-back (HopAnswer.Refused n) = refl
+
+abbrev drainOf : Values → DrainAnswer
+drainOf v = among (v .kind) (DrainAnswer.Keyed (v .key)) DrainAnswer.Done (DrainAnswer.Refused (v .number))
+
+drain-back : (a : DrainAnswer) → drainOf (ofDrain a) ≡ a
+drain-back (DrainAnswer.Keyed k) = refl
+drain-back DrainAnswer.Done = refl
+drain-back (DrainAnswer.Refused n) = refl
+
+abbrev clearOf : Values → ClearAnswer
+clearOf v = among (v .kind) ClearAnswer.Done ClearAnswer.Done (ClearAnswer.Refused (v .number))
+
+clear-back : (a : ClearAnswer) → clearOf (ofClear a) ≡ a
+clear-back ClearAnswer.Done = refl
+clear-back (ClearAnswer.Refused n) = refl
+
+abbrev countOf : Values → CountAnswer
+countOf v = among (v .kind) (CountAnswer.Counted (v .count)) (CountAnswer.Refused 0) (CountAnswer.Refused (v .number))
+
+count-back : (a : CountAnswer) → countOf (ofCount a) ≡ a
+count-back (CountAnswer.Counted n) = refl
+count-back (CountAnswer.Refused n) = refl
+
+number-back : (n : ℕ) → ofNumber n .number ≡ n
+number-back n = go (eqb n 0) (eqb-true n 0)
+  where
+    go : (t : Bool) → (t ≡ true → n ≡ 0) → pick t done (refused n) .number ≡ n
+    go true h = sym (h refl)
+    go false h = refl
+
+-- start, replace, rebuild, the soundness check
+pub numbered-settles : Readable Numbered numbered
+numbered-settles =
+    with-header ofNumber (λ v. v .number) number-back (λ x. x .number) (λ x. x .header)
+    (λ n hd. record { number = n; header = hd }) (λ x. refl)
+
+-- insert
+pub inserted-settles : Readable Inserted inserted
+inserted-settles =
+    with-header ofKey keyOf key-back (λ x. x .answer) (λ x. x .header)
+    (λ a hd. record { answer = a; header = hd }) (λ x. refl)
+
+-- remove
+pub removed-settles : Readable Removed removed
+removed-settles =
+    with-row ofKey keyOf key-back (λ x. x .answer) (λ x. x .header) (λ x. x .row)
+    (λ a w hd. record { answer = a; row = w; header = hd }) (λ x. refl)
+
+-- the hop step
+pub hopped-settles : Readable Hopped hopped
+hopped-settles =
+    with-header ofHop hopOf hop-back (λ x. x .answer) (λ x. x .header)
+    (λ a hd. record { answer = a; header = hd }) (λ x. refl)
+
+-- the drain step
+pub drained-settles : Readable Drained drained
+drained-settles =
+    with-row ofDrain drainOf drain-back (λ x. x .answer) (λ x. x .header) (λ x. x .row)
+    (λ a w hd. record { answer = a; row = w; header = hd }) (λ x. refl)
+
+-- clear
+pub cleared-settles : Readable Cleared cleared
+cleared-settles =
+    with-header ofClear clearOf clear-back (λ x. x .answer) (λ x. x .header)
+    (λ a hd. record { answer = a; header = hd }) (λ x. refl)
+
+-- retain
+pub retained-settles : Readable Retained retained
+retained-settles =
+    with-header ofCount countOf count-back (λ x. x .answer) (λ x. x .header)
+    (λ a hd. record { answer = a; header = hd }) (λ x. refl)
+
+-- room
+pub roomed-settles : Readable Roomed roomed
+roomed-settles =
+    with-header ofCount countOf count-back (λ x. x .answer) (λ x. x .header)
+    (λ a hd. record { answer = a; header = hd }) (λ x. refl)
+
+-- call by call
+pub start-settled : (l r : List ℕ) (hd : Header) → OneOutcome numbered (startRule l r hd)
+start-settled l r hd = settled numbered numbered-settles (startRule l r hd)
+
+pub room-settled : (l r : List ℕ) (hd : Header) → OneOutcome roomed (roomRule l r hd)
+room-settled l r hd = settled roomed roomed-settles (roomRule l r hd)
+
+pub replace-settled : (l r : List ℕ) (hd : Header) (k : Key) (side : List ℕ) → OneOutcome numbered (replaceRule l r hd k side)
+replace-settled l r hd k side = settled numbered numbered-settles (replaceRule l r hd k side)
+
+pub key-number-settled : (l r : List ℕ) (hd : Header) (k : Key) (m n : ℕ) → m ≡ keyNumber l r hd k → n ≡ keyNumber l r hd k → m ≡ n
+key-number-settled l r hd k m n p q = p ∙ sym q
+
+-- a look: the words of the part and where it lies in the rows that were lent
+pub look-settled : (l : List ℕ) (r : RefT (List ℕ)) (hd : Header) (k : Key) (x y : RefT (List ℕ)) →
+    Lies l r hd k x → Lies l r hd k y → (x .now ≡ y .now) × (x .ptr ≡ y .ptr)
+look-settled l r hd k x y p q = (p .words ∙ sym (q .words), p .place ∙ sym (q .place))

@@ -1,0 +1,18 @@
+-- `slots::chain::key_number` meets its contract. Assumes nothing.
+use Rattle.rules.specs.Access.{keyNumber}
+use borrow.Author.Needs.{needs}
+use Rattle.slots.proofs.chain.key_number.Statement.{statement}
+use Rattle.slots.proofs.chain.key_number.Tie as tie
+
+entry-number-requires : tie.Need-entry-number-requires
+entry-number-requires c κs = search needs
+
+keyed-number-requires : tie.Need-keyed-number-requires
+keyed-number-requires c κs = search needs
+
+returns : tie.Need-returns
+unfolding keyNumber
+returns c = cc
+
+pub key-number-spec : {M : Type 1} → statement M
+key-number-spec = tie.close (tie.spec entry-number-requires keyed-number-requires returns)

@@ -1,0 +1,21 @@
+-- `slots::chain::live_key` meets its contract. Assumes nothing.
+use Rattle.rules.specs.Refusals.{liveKey}
+use borrow.Author.Needs.{needs}
+use Rattle.slots.proofs.chain.live_key.Statement.{statement}
+use Rattle.slots.proofs.chain.live_key.Tie as tie
+
+version-requires : tie.Need-version-requires
+version-requires c κs = search needs
+
+and-requires : tie.Need-and-requires
+and-requires c κs = search needs
+
+and-requires-2 : tie.Need-and-requires-2
+and-requires-2 c κs = search needs
+
+returns : tie.Need-returns
+unfolding liveKey
+returns c = cc
+
+pub live-key-spec : {M : Type 1} → statement M
+live-key-spec = tie.close (tie.spec version-requires and-requires and-requires-2 returns)

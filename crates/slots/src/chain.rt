@@ -1,0 +1,127 @@
+// The chains of refusals, segment by segment, as in rules/specs/Refusals: each takes the number so far.
+ghost use mathlib.Core.Path.{_≡_};
+ghost use Prim.Native.Nat.{_-_};
+ghost use lib.ListN.{length};
+ghost use Rattle.rules.specs.Choice.{both};
+ghost use Rattle.rules.specs.Refusals.{_▸_, lentNumber, headerNumber, shapeNumber, sideNumber, zeroNumber, liveKey, keyedNumber, entryNumber, sideEntryNumber};
+ghost use Rattle.rules.specs.Access.{keyNumber};
+use crate::words::version;
+use rules::DAMAGED;
+use rules::EVEN_VERSION;
+use rules::Header;
+use rules::Key;
+use rules::LIMIT;
+use rules::LINK_WORDS;
+use rules::NOT_LIVE;
+use rules::ROW_WORDS;
+use rules::SHAPE;
+
+// What a chain starts with: no number.
+pub const PASSES: u32 = 0;
+
+// One more test of a chain.
+pub fn or_if(k: u32, test: bool, number: u32) -> u32
+    ensures { λ r. ⌜ r ≡ k ▸ (test, number) ⌝ }
+{
+    if k != 0 {
+        return k;
+    }
+    if test { number } else { 0 }
+}
+
+// Both tests, each already made.
+pub fn and(a: bool, b: bool) -> bool
+    ensures { λ r. ⌜ r ≡ both a b ⌝ }
+{
+    if a { b } else { false }
+}
+
+// One less, and 0 at 0.
+pub fn one_below(n: u32) -> u32
+    ensures { λ r. ⌜ r ≡ n - 1 ⌝ }
+{
+    if n == 0 { 0 } else { n - 1 }
+}
+
+// The lent tables alone, by their lengths.
+pub fn lent_number(links: usize, rows: usize) -> u32
+    ensures { λ r. ⌜ r ≡ lentNumber links rows ⌝ }
+{
+    let k = or_if(PASSES, links % LINK_WORDS != 0, SHAPE);
+    let k = or_if(k, rows % ROW_WORDS != 0, SHAPE);
+    let k = or_if(k, links / LINK_WORDS != rows / ROW_WORDS, SHAPE);
+    let k = or_if(k, links / LINK_WORDS == 0, SHAPE);
+    or_if(k, LIMIT < links / LINK_WORDS, SHAPE)
+}
+
+// The header, beside the lent count.
+pub fn header_number(k: u32, lent: usize, header: Header) -> u32
+    ensures { λ r. ⌜ r ≡ headerNumber k lent header ⌝ }
+{
+    let used = header.used;
+    let k = or_if(k, used == 0, SHAPE);
+    let k = or_if(k, lent < used as usize, SHAPE);
+    or_if(k, one_below(used) < header.live, SHAPE)
+}
+
+pub fn shape_number(links: &[u32], rows: &[u32], header: Header) -> u32
+    ensures { λ r. ⌜ r ≡ shapeNumber (now (links .entry)) (now (rows .entry)) header ⌝ }
+{
+    let k = lent_number(links.len(), rows.len());
+    header_number(k, links.len() / LINK_WORDS, header)
+}
+
+// A side buffer's length, beside the one that is asked for.
+pub fn side_number(k: u32, side: usize, n: usize) -> u32
+    ensures { λ r. ⌜ r ≡ sideNumber k side n ⌝ }
+{
+    or_if(k, side != n, SHAPE)
+}
+
+pub fn zero_number(k: u32, links: &[u32], header: Header) -> u32
+    ensures { λ r. ⌜ r ≡ zeroNumber k (now (links .entry)) header ⌝ }
+{
+    or_if(k, version(links, header.used, 0) % 2 == 1, DAMAGED)
+}
+
+pub fn entry_number(links: &[u32], rows: &[u32], header: Header) -> u32
+    ensures { λ r. ⌜ r ≡ entryNumber (now (links .entry)) (now (rows .entry)) header ⌝ }
+{
+    zero_number(shape_number(links, rows, header), links, header)
+}
+
+pub fn side_entry_number(links: &[u32], rows: &[u32], header: Header, side: usize, n: usize) -> u32
+    ensures { λ r. ⌜ r ≡ sideEntryNumber (now (links .entry)) (now (rows .entry)) header side n ⌝ }
+{
+    zero_number(
+        side_number(shape_number(links, rows, header), side, n),
+        links,
+        header,
+    )
+}
+
+pub fn live_key(links: &[u32], header: Header, key: Key) -> bool
+    ensures { λ r. ⌜ r ≡ liveKey (now (links .entry)) header key ⌝ }
+{
+    let used = header.used;
+    let index = key.index;
+    let held = and(
+        key.version % 2 == 1,
+        version(links, used, index) == key.version,
+    );
+    and(index < used, held)
+}
+
+pub fn keyed_number(k: u32, links: &[u32], header: Header, key: Key) -> u32
+    ensures { λ r. ⌜ r ≡ keyedNumber k (now (links .entry)) header key ⌝ }
+{
+    let k = or_if(k, key.version % 2 == 0, EVEN_VERSION);
+    or_if(k, !live_key(links, header, key), NOT_LIVE)
+}
+
+// Key number: 0 for a live key, else the number that it is turned down with.
+pub fn key_number(links: &[u32], rows: &[u32], header: Header, key: Key) -> u32
+    ensures { λ r. ⌜ r ≡ keyNumber (now (links .entry)) (now (rows .entry)) header key ⌝ }
+{
+    keyed_number(entry_number(links, rows, header), links, header, key)
+}
