@@ -1,0 +1,78 @@
+-- `access::replace` meets its contract. Assumes nothing.
+use Rattle.rules.specs.Values.{plain, done}
+use Rattle.rules.specs.Access.{replaceRule}
+use Rattle.rules.proofs.Outcomes.{numbered-by, done-by}
+use Rattle.rules.proofs.Access.{replace-within}
+use Rattle.access.proofs.Part.{lent-on}
+use mathlib.Core.List.{List}
+use mathlib.Core.Path.{sym, ap, _∙_}
+use Prim.Native.Nat.{ℕ}
+use native.Mathlib.Omega.{arith}
+use denote.Ref.{now}
+use borrow.Author.Needs.{needs}
+use Rattle.access.proofs.replace.Statement.{statement}
+use Rattle.access.proofs.replace.Tie as tie
+
+cast-index : tie.Need-cast-index
+cast-index c = search needs
+
+replace-number-requires : tie.Need-replace-number-requires
+replace-number-requires c κs = search needs
+
+same-length : tie.Need-same-length
+same-length c = search needs
+
+returns : tie.Need-returns
+unfolding replaceRule
+returns c = numbered-by _ _ _ _ _ (c .before .replace-number .ensures) _ (c .if1 .taken)
+
+mul-at : tie.Need-mul-at
+mul-at c = search needs
+
+add-end : tie.Need-add-end
+add-end c = search needs
+
+mul-put-row : tie.Need-mul-put-row
+mul-put-row c = search needs
+
+sub-put-row : tie.Need-sub-put-row
+sub-put-row c = search needs
+
+part-put-row-start : tie.Need-part-put-row-start
+part-put-row-start c = search needs
+
+part-put-row-end : tie.Need-part-put-row-end
+part-put-row-end c = omega (arith, replace-within _ _ _ _ _ (sym (c .before .replace-number .ensures) ∙ c .if1 .left) .0)
+
+put-row-requires : tie.Need-put-row-requires
+put-row-requires c κs = search needs
+
+same-length-2 : tie.Need-same-length-2
+same-length-2 c = search needs
+
+returns-2 : tie.Need-returns-2
+unfolding replaceRule
+returns-2 c =
+    let a = c .before .before .before .before .before .before .before .before .before .before .before .args in
+    let n = c .before .before .before .before .before .replace-number .ensures in
+    let w = replace-within _ _ _ _ _ (sym n ∙ c .before .before .before .before .if1 .left) in
+    done-by _ _ _ _ _ n _ (c .before .before .before .before .if1 .left) _
+    (rw (c .before .before .put-row .ensures) (ap (λ (r : List ℕ). plain done (a .header) (now (a .links)) r) (lent-on (now (a .rows)) (now (a .side)) (a .key .index) (w .1) (w .0))))
+
+pub replace-spec : {M : Type 1} → statement M
+replace-spec =
+    tie.close
+    (tie.spec
+    cast-index
+    replace-number-requires
+    same-length
+    returns
+    mul-at
+    add-end
+    mul-put-row
+    sub-put-row
+    part-put-row-start
+    part-put-row-end
+    put-row-requires
+    same-length-2
+    returns-2)

@@ -1,0 +1,18 @@
+-- `access::replace_number` meets its contract. Assumes nothing.
+use Rattle.rules.specs.Access.{replaceNumber}
+use borrow.Author.Needs.{needs}
+use Rattle.access.proofs.replace_number.Statement.{statement}
+use Rattle.access.proofs.replace_number.Tie as tie
+
+side-entry-number-requires : tie.Need-side-entry-number-requires
+side-entry-number-requires c κs = search needs
+
+keyed-number-requires : tie.Need-keyed-number-requires
+keyed-number-requires c κs = search needs
+
+returns : tie.Need-returns
+unfolding replaceNumber
+returns c = cc
+
+pub replace-number-spec : {M : Type 1} → statement M
+replace-number-spec = tie.close (tie.spec side-entry-number-requires keyed-number-requires returns)
