@@ -59,9 +59,10 @@ pub fn header_number(k: u32, lent: usize, header: Header) -> u32
     ensures { λ r. ⌜ r ≡ headerNumber k lent header ⌝ }
 {
     let used = header.used;
+    let most = one_below(used);
     let k = or_if(k, used == 0, SHAPE);
     let k = or_if(k, lent < used as usize, SHAPE);
-    or_if(k, one_below(used) < header.live, SHAPE)
+    or_if(k, most < header.live, SHAPE)
 }
 
 pub fn shape_number(links: &[u32], rows: &[u32], header: Header) -> u32

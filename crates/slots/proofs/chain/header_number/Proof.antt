@@ -4,6 +4,9 @@ use borrow.Author.Needs.{needs}
 use Rattle.slots.proofs.chain.header_number.Statement.{statement}
 use Rattle.slots.proofs.chain.header_number.Tie as tie
 
+one-below-requires : tie.Need-one-below-requires
+one-below-requires c κs = search needs
+
 or-if-requires : tie.Need-or-if-requires
 or-if-requires c κs = search needs
 
@@ -12,9 +15,6 @@ cast-or-if c = search needs
 
 or-if-requires-2 : tie.Need-or-if-requires-2
 or-if-requires-2 c κs = search needs
-
-one-below-requires : tie.Need-one-below-requires
-one-below-requires c κs = search needs
 
 or-if-requires-3 : tie.Need-or-if-requires-3
 or-if-requires-3 c κs = search needs
@@ -27,9 +27,9 @@ pub header-number-spec : {M : Type 1} → statement M
 header-number-spec =
     tie.close
     (tie.spec
+    one-below-requires
     or-if-requires
     cast-or-if
     or-if-requires-2
-    one-below-requires
     or-if-requires-3
     returns)

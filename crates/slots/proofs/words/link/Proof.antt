@@ -12,7 +12,7 @@ use Rattle.slots.proofs.words.link.Tie as tie
 
 returns : tie.Need-returns
 unfolding linkAt
-returns c = simp (le-ltb _ _ (c .if1 .taken))
+returns c = let a = c .before .args in simp (le-ltb (a .i) (a .used) (omega arith))
 
 mul-at : tie.Need-mul-at
 mul-at c = search needs
@@ -28,13 +28,13 @@ shared-slice-read-result c = search needs
 
 returns-2 : tie.Need-returns-2
 unfolding linkAt
-returns-2 c = simp (lt-ltb _ _ (c .before .before .if1 .left))
+returns-2 c = let a = c .before .before .before .args in simp (lt-ltb (a .i) (a .used) (omega arith))
 
 returns-3 : tie.Need-returns-3
 unfolding linkAt
 returns-3 c =
     let a = c .before .before .args in
-    simp (lt-ltb _ _ (c .before .if1 .left)) (sym (List·getD-eq-default (now (a .links)) 0 {n = a .i * linkWords + a .w} (omega arith)))
+    simp (lt-ltb (a .i) (a .used) (omega arith)) (sym (List·getD-eq-default (now (a .links)) 0 {n = a .i * linkWords + a .w} (omega arith)))
 
 pub link-spec : {M : Type 1} → statement M
 link-spec =

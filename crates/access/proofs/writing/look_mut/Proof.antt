@@ -1,11 +1,11 @@
--- `access::look_mut` meets its contract. Assumes nothing.
+-- `access::writing::look_mut` meets its contract. Assumes nothing.
 use Rattle.rules.proofs.Access.{lies-missed, lies-found, live-within}
 use mathlib.Core.Path.{refl, sym, _∙_}
 use native.Mathlib.Omega.{arith}
 use native.Mathlib.Nat.{add-sub-cancel-left}
 use borrow.Author.Needs.{needs}
-use Rattle.access.proofs.look_mut.Statement.{statement}
-use Rattle.access.proofs.look_mut.Tie as tie
+use Rattle.access.proofs.writing.look_mut.Statement.{statement}
+use Rattle.access.proofs.writing.look_mut.Tie as tie
 
 cast-index : tie.Need-cast-index
 cast-index c = search needs

@@ -1,8 +1,8 @@
--- `access::replace_number` meets its contract. Assumes nothing.
+-- `access::replacing::replace_number` meets its contract. Assumes nothing.
 use Rattle.rules.specs.Access.{replaceNumber}
 use borrow.Author.Needs.{needs}
-use Rattle.access.proofs.replace_number.Statement.{statement}
-use Rattle.access.proofs.replace_number.Tie as tie
+use Rattle.access.proofs.replacing.replace_number.Statement.{statement}
+use Rattle.access.proofs.replacing.replace_number.Tie as tie
 
 side-entry-number-requires : tie.Need-side-entry-number-requires
 side-entry-number-requires c κs = search needs

@@ -1,17 +1,19 @@
--- `access::replace` meets its contract. Assumes nothing.
+-- `access::replacing::replace` meets its contract. Assumes nothing.
 use Rattle.rules.specs.Values.{plain, done}
 use Rattle.rules.specs.Access.{replaceRule}
 use Rattle.rules.proofs.Outcomes.{numbered-by, done-by}
 use Rattle.rules.proofs.Access.{replace-within}
 use Rattle.access.proofs.Part.{lent-on}
 use mathlib.Core.List.{List}
-use mathlib.Core.Path.{sym, ap, _∙_}
-use Prim.Native.Nat.{ℕ}
+use mathlib.Core.Path.{_≡_, sym, ap, _∙_}
+use Prim.Native.Nat.{ℕ, _+_, _*_, _≤_}
+use lib.ListN.{length}
+use Rattle.rules.specs.Words.{rowWords}
 use native.Mathlib.Omega.{arith}
 use denote.Ref.{now}
 use borrow.Author.Needs.{needs}
-use Rattle.access.proofs.replace.Statement.{statement}
-use Rattle.access.proofs.replace.Tie as tie
+use Rattle.access.proofs.replacing.replace.Statement.{statement}
+use Rattle.access.proofs.replacing.replace.Tie as tie
 
 cast-index : tie.Need-cast-index
 cast-index c = search needs
@@ -41,23 +43,29 @@ sub-put-row c = search needs
 part-put-row-start : tie.Need-part-put-row-start
 part-put-row-start c = search needs
 
-part-put-row-end : tie.Need-part-put-row-end
-part-put-row-end c = omega (arith, replace-within _ _ _ _ _ (sym (c .before .replace-number .ensures) ∙ c .if1 .left) .0)
-
 put-row-requires : tie.Need-put-row-requires
 put-row-requires c κs = search needs
 
 same-length-2 : tie.Need-same-length-2
 same-length-2 c = search needs
 
+-- past the tests the row is within the table and the side buffer is a row
+fits : (c : tie.Else1) →
+    (c .before .before .before .before .before .before .before .args .key .index * rowWords + rowWords ≤ length (now (c .before .before .before .before .before .before .before .args .rows))) × (length (now (c .before .before .before .before .before .before .before .args .side)) ≡ rowWords)
+fits c = replace-within _ _ _ _ _ (sym (c .before .replace-number .ensures) ∙ c .if1 .left)
+
+part-put-row-end : tie.Need-part-put-row-end
+part-put-row-end c = omega (arith, fits c .0)
+
 returns-2 : tie.Need-returns-2
 unfolding replaceRule
 returns-2 c =
     let a = c .before .before .before .before .before .before .before .before .before .before .before .args in
-    let n = c .before .before .before .before .before .replace-number .ensures in
-    let w = replace-within _ _ _ _ _ (sym n ∙ c .before .before .before .before .if1 .left) in
-    done-by _ _ _ _ _ n _ (c .before .before .before .before .if1 .left) _
-    (rw (c .before .before .put-row .ensures) (ap (λ (r : List ℕ). plain done (a .header) (now (a .links)) r) (lent-on (now (a .rows)) (now (a .side)) (a .key .index) (w .1) (w .0))))
+    let w = fits (c .before .before .before .before) in
+    done-by _ _ _ _ _ (c .before .before .before .before .before .replace-number .ensures) _ (c .before .before .before .before .if1 .left) _
+    (rw (c .before .before .put-row .ensures)
+    (ap (λ (r : List ℕ). plain done (a .header) (now (a .links)) r)
+    (lent-on (now (a .rows)) (now (a .side)) (a .key .index) (w .1) (w .0))))
 
 pub replace-spec : {M : Type 1} → statement M
 replace-spec =
