@@ -6,15 +6,15 @@ use rules::Header;
 use rules::Key;
 use rules::Numbered;
 use rules::ROW_WORDS;
-use slots::chain::keyed_number;
-use slots::chain::side_entry_number;
+use slots::refusals::live_number;
+use slots::refusals::side_entry_number;
 use slots::rows::put_row;
 
 fn replace_number(links: &[u32], rows: &[u32], header: Header, key: Key, side: &[u32]) -> u32
     ensures { λ r. ⌜ r ≡ replaceNumber (now (links .entry)) (now (rows .entry)) header key (now (side .entry)) ⌝ }
 {
     let k = side_entry_number(links, rows, header, side.len(), ROW_WORDS);
-    keyed_number(k, links, header, key)
+    live_number(k, links, header, key)
 }
 
 // The row of a live key becomes the side buffer: its part of the table is lent on, so no other row can change.

@@ -7,7 +7,7 @@ use native.Mathlib.Omega.{arith}
 use lib.ListN.{length, take, drop}
 use borrow.Author.Tests.{eq-eqb, ne-eqb, lt-ltb, le-leb}
 use Rattle.rules.specs.Words.{rowWords, rowAt}
-use Rattle.rules.specs.Access.{wordBytes, keyNumber, lookRule, lookStart, startsAt, Lies, replaceNumber}
+use Rattle.rules.specs.Access.{wordBytes, keyNumber, lookRule, lookStart, startsAt, RowPart, replaceNumber}
 use Rattle.rules.specs.declared.Header.{Header}
 use Rattle.rules.specs.declared.Key.{Key}
 use Rattle.rules.proofs.Shape.{Shaped, entered, side-entered, held}
@@ -25,18 +25,18 @@ live-within l r hd k h =
     (e .1, row-within l r hd (k .index) (entered _ _ _ (e .0)) (e .1))
 
 module _ (l : List ℕ) (rows : RefT (List ℕ)) (hd : Header) (k : Key) (part : RefT (List ℕ)) where
-  pub lies-missed : (keyNumber l (rows .now) hd k ≡ 0 → ⊥) → part .now ≡ [] → startsAt part rows 0 → Lies l rows hd k part
+  pub part-missed : (keyNumber l (rows .now) hd k ≡ 0 → ⊥) → part .now ≡ [] → startsAt part rows 0 → RowPart l rows hd k part
   unfolding lookRule lookStart
-  lies-missed h words place =
+  part-missed h words place =
       record {
         words = simp (ne-eqb _ _ h) words;
         place = simp (ne-eqb _ _ h) place;
       }
 
-  pub lies-found : keyNumber l (rows .now) hd k ≡ 0 → part .now ≡ take rowWords (drop (k .index * rowWords) (rows .now)) →
-      startsAt part rows (k .index * rowWords) → Lies l rows hd k part
+  pub part-found : keyNumber l (rows .now) hd k ≡ 0 → part .now ≡ take rowWords (drop (k .index * rowWords) (rows .now)) →
+      startsAt part rows (k .index * rowWords) → RowPart l rows hd k part
   unfolding lookRule lookStart rowAt
-  lies-found h words place =
+  part-found h words place =
       let e = live-within l (rows .now) hd k h in
       record {
         words = simp (eq-eqb _ _ h, lt-ltb _ _ (e .0), le-leb _ _ (e .1)) words;

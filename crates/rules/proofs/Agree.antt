@@ -11,7 +11,7 @@ use lib.Seq.{getD-take, take-set-lt, take-set-le, take-suc-set, take-all, take-t
 use lib.Dec.{ltb, leb, eqb}
 use borrow.Author.Tests.{ltb-true, leb-true, eqb-true, eq-eqb, le-leb}
 use Rattle.rules.specs.Choice.{pick, both}
-use Rattle.rules.specs.Words.{linkWords, rowWords, versionWord, nextWord, prevWord, otherEndWord, linkAt, setLink, newSlot, rowWithin, rowAt, setRow, noRow}
+use Rattle.rules.specs.Words.{linkWords, rowWords, versionWord, nextWord, prevWord, otherEndWord, linkAt, setLink, newSlot, rowWithin, rowAt, setRow, zeroRow}
 use Rattle.rules.specs.NeverRead.{AgreeTo, AgreeBelow}
 
 by-equal : (n : ℕ) (a a′ b b′ : List ℕ) → a ≡ a′ → b ≡ b′ → AgreeTo n a b → AgreeTo n a′ b′
@@ -113,10 +113,10 @@ pub same-row : (m : ℕ) (r r′ : List ℕ) → AgreeTo (m * rowWords) r r′ �
 unfolding rowAt
 same-row m r r′ g i =
     at (ltb i m) (rowWithin r i) (ltb-true i m) (leb-true _ _)
-    ∙ ap (λ (n : ℕ). pick (both (ltb i m) (leb (i * rowWords + rowWords) n)) (take rowWords (drop (i * rowWords) r′)) noRow) (g .lengths)
+    ∙ ap (λ (n : ℕ). pick (both (ltb i m) (leb (i * rowWords + rowWords) n)) (take rowWords (drop (i * rowWords) r′)) zeroRow) (g .lengths)
   where
     at : (t u : Bool) → (t ≡ true → i < m) → (u ≡ true → i * rowWords + rowWords ≤ length r) →
-        pick (both t u) (take rowWords (drop (i * rowWords) r)) noRow ≡ pick (both t u) (take rowWords (drop (i * rowWords) r′)) noRow
+        pick (both t u) (take rowWords (drop (i * rowWords) r)) zeroRow ≡ pick (both t u) (take rowWords (drop (i * rowWords) r′)) zeroRow
     at true true h j =
         let below : i < m = h refl in
         let within : i * rowWords + rowWords ≤ length r = j refl in

@@ -1,10 +1,10 @@
 -- Laws of the rules.
-pub mod Chains
+pub mod Refusals
 pub mod Shape
 pub mod Outcomes
 pub mod Access
-pub mod Start
 pub mod Settled
 pub mod Agree
+pub mod Kept
 pub mod NeverRead
 mod Bench

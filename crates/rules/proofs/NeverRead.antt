@@ -8,17 +8,18 @@ use lib.ListN.{length}
 use lib.Dec.{eqb, ltb}
 use borrow.Author.Tests.{eqb-true}
 use Rattle.rules.specs.Choice.{pick, both}
-use Rattle.rules.specs.Words.{linkWords, rowWords, lentOf, versionAt, versionWord, linkAt, isOdd, isEven, newSlot, setRow, noRow, rowAt}
+use Rattle.rules.specs.Words.{linkWords, rowWords, lentOf, versionAt, versionWord, linkAt, isOdd, isEven, newSlot, setRow, zeroRow, rowAt}
 use Rattle.rules.specs.Headers.{fresh}
 use Rattle.rules.specs.Values.{Outcome, plain, done, counted, refusal, unless}
-use Rattle.rules.specs.Refusals.{_▸_, damaged, evenVersion, notLive, lentNumber, headerNumber, shapeNumber, sideNumber, zeroNumber, liveKey, keyedNumber, entryNumber, sideEntryNumber}
+use Rattle.rules.specs.Refusals.{_▸_, damaged, evenVersion, notLive, lentNumber, headerNumber, shapeNumber, sideNumber, zeroNumber, liveKey, liveNumber, entryNumber, sideEntryNumber}
 use Rattle.rules.specs.Start.{startRule, roomRule}
 use Rattle.rules.specs.Access.{keyNumber, lookRule, lookStart, replaceNumber, replaceRule}
 use Rattle.rules.specs.NeverRead.{AgreeTo, AgreeBelow, Alike, NeverReads, AnswersAlike}
 use Rattle.rules.specs.declared.Header.{Header}
 use Rattle.rules.specs.declared.Key.{Key}
 use Rattle.rules.proofs.Agree.{same-link, same-row, row-agrees, slot-filled, row-filled}
-use Rattle.rules.proofs.Shape.{Lent, lent}
+use Rattle.rules.proofs.Kept.{slot-kept, row-kept, unless-kept}
+use Rattle.rules.proofs.Shape.{Lent, lent, held}
 
 -- one number, and one step where it is 0: the rule reads no more than they do
 pub unless-alike : (m : ℕ) (l l′ r r′ : List ℕ) (hd : Header) → AgreeBelow m l l′ r r′ → (n n′ : ℕ) → n ≡ n′ →
@@ -53,9 +54,9 @@ module _ (hd : Header) (l l′ r r′ : List ℕ) (g : AgreeBelow (hd .used) l l
   same-side-entry side n =
       same-zero (sideNumber (shapeNumber l r hd) side n) ∙ ap (λ (k : ℕ). zeroNumber (sideNumber k side n) l′ hd) same-shape
 
-  pub same-keyed : (k : ℕ) (key : Key) → keyedNumber k l hd key ≡ keyedNumber k l′ hd key
-  unfolding keyedNumber liveKey
-  same-keyed k key =
+  pub same-live : (k : ℕ) (key : Key) → liveNumber k l hd key ≡ liveNumber k l′ hd key
+  unfolding liveNumber liveKey
+  same-live k key =
       ap
       (λ (v : ℕ).
       k ▸ (isEven (key .version), evenVersion)
@@ -64,7 +65,7 @@ module _ (hd : Header) (l l′ r r′ : List ℕ) (g : AgreeBelow (hd .used) l l
 
   pub same-key : (key : Key) → keyNumber l r hd key ≡ keyNumber l′ r′ hd key
   unfolding keyNumber
-  same-key key = same-keyed (entryNumber l r hd) key ∙ ap (λ (k : ℕ). keyedNumber k l′ hd key) same-entry
+  same-key key = same-live (entryNumber l r hd) key ∙ ap (λ (k : ℕ). liveNumber k l′ hd key) same-entry
 
 pub start-never-reads : (hd : Header) → NeverReads 0 (λ l r. startRule l r hd)
 unfolding startRule
@@ -81,9 +82,11 @@ start-never-reads hd =
             tables =
                 record {
                   links = slot-filled 0 l l′ (g .links) 0;
-                  rows = row-filled 0 r r′ noRow (g .rows) refl (omega (arith, s .row-words, s .some));
+                  rows = row-filled 0 r r′ zeroRow (g .rows) refl (omega (arith, s .row-words, s .some));
                 };
           });
+      kept = λ l r.
+          unless-kept 0 l r hd _ _ (λ _. record { links = slot-kept l 0 0; rows = row-kept 1 r 0 zeroRow (omega arith) });
     }
 
 pub room-never-reads : (hd : Header) → NeverReads (hd .used) (λ l r. roomRule l r hd)
@@ -93,6 +96,7 @@ room-never-reads hd =
       alike = λ l l′ r r′ g.
           unless-alike (hd .used) l l′ r r′ hd g _ _ (same-entry hd l l′ r r′ g) _ _
           (λ e. record { answer = simp (g .links .lengths); row = refl; header = refl; tables = g });
+      kept = λ l r. unless-kept (hd .used) l r hd _ _ (λ _. record { links = refl; rows = refl });
     }
 
 pub key-number-never-reads : (hd : Header) (k : Key) → AnswersAlike (hd .used) (λ l r. keyNumber l r hd k)
@@ -116,7 +120,7 @@ replace-never-reads hd k side =
     record {
       alike = λ l l′ r r′ g.
           unless-alike (hd .used) l l′ r r′ hd g _ _
-          (same-keyed hd l l′ r r′ g _ k ∙ ap (λ (n : ℕ). keyedNumber n l′ hd k) (same-side-entry hd l l′ r r′ g (length side) rowWords)) _ _
+          (same-live hd l l′ r r′ g _ k ∙ ap (λ (n : ℕ). liveNumber n l′ hd k) (same-side-entry hd l l′ r r′ g (length side) rowWords)) _ _
           (λ e.
           record {
             answer = refl;
@@ -124,4 +128,7 @@ replace-never-reads hd k side =
             header = refl;
             tables = record { links = g .links; rows = row-agrees _ r r′ (g .rows) (k .index) side };
           });
+      kept = λ l r.
+          unless-kept (hd .used) l r hd _ _
+          (λ e. record { links = refl; rows = row-kept (hd .used) r (k .index) side (held _ l hd k e .1) });
     }

@@ -11,7 +11,7 @@ use borrow.Author.Tests.{eqb-true}
 use Rattle.rules.specs.Choice.{pick}
 use Rattle.rules.specs.Values.{Kind, gives, ends, refuses, Values, ofKey, ofHop, ofDrain, ofClear, ofCount, ofNumber, done, refused, Outcome, plain, numbered, inserted, removed, hopped, drained, cleared, retained, roomed}
 use Rattle.rules.specs.Start.{startRule, roomRule}
-use Rattle.rules.specs.Access.{keyNumber, replaceRule, Lies}
+use Rattle.rules.specs.Access.{keyNumber, replaceRule, RowPart}
 use Rattle.rules.specs.declared.Header.{Header}
 use Rattle.rules.specs.declared.Key.{Key}
 use Rattle.rules.specs.declared.KeyAnswer.{KeyAnswer}
@@ -183,5 +183,5 @@ key-number-settled l r hd k m n p q = p ∙ sym q
 
 -- a look: the words of the part and where it lies in the rows that were lent
 pub look-settled : (l : List ℕ) (r : RefT (List ℕ)) (hd : Header) (k : Key) (x y : RefT (List ℕ)) →
-    Lies l r hd k x → Lies l r hd k y → (x .now ≡ y .now) × (x .ptr ≡ y .ptr)
+    RowPart l r hd k x → RowPart l r hd k y → (x .now ≡ y .now) × (x .ptr ≡ y .ptr)
 look-settled l r hd k x y p q = (p .words ∙ sym (q .words), p .place ∙ sym (q .place))

@@ -9,11 +9,11 @@ use lib.Dec.{ltb, eqb}
 use borrow.Author.Tests.{eqb-true, eqb-false, ltb-true, ltb-false, not-false}
 use Rattle.rules.specs.Choice.{pick, both}
 use Rattle.rules.specs.Words.{limit, linkWords, rowWords, lentOf, versionAt, isOdd}
-use Rattle.rules.specs.Refusals.{_▸_, shape, damaged, evenVersion, notLive, lentNumber, headerNumber, shapeNumber, sideNumber, zeroNumber, liveKey, keyedNumber, entryNumber, sideEntryNumber}
+use Rattle.rules.specs.Refusals.{_▸_, shape, damaged, evenVersion, notLive, lentNumber, headerNumber, shapeNumber, sideNumber, zeroNumber, liveKey, liveNumber, entryNumber, sideEntryNumber}
 use Rattle.rules.specs.Access.{keyNumber, replaceNumber}
 use Rattle.rules.specs.declared.Header.{Header}
 use Rattle.rules.specs.declared.Key.{Key}
-use Rattle.rules.proofs.Chains.{passed}
+use Rattle.rules.proofs.Refusals.{passed}
 
 -- a lent count that link table and row table share, from 1 to the limit
 pub record Lent (links rows lent : ℕ) : Type 0 where
@@ -77,9 +77,9 @@ both-true true b e = (refl, e)
 both-true false b e = absurd (eqb-false 0 1 refl (cc))
 
 -- past the tests of a key its slot is in use and holds its version
-pub held : (k : ℕ) (l : List ℕ) (hd : Header) (key : Key) → keyedNumber k l hd key ≡ 0 →
+pub held : (k : ℕ) (l : List ℕ) (hd : Header) (key : Key) → liveNumber k l hd key ≡ 0 →
     (k ≡ 0) × (key .index < hd .used)
-unfolding keyedNumber liveKey
+unfolding liveNumber liveKey
 held k l hd key e =
     let e₂ = passed _ _ _ (omega arith) e in
     let e₁ = passed _ _ _ (omega arith) (e₂ .0) in

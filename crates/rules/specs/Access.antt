@@ -1,4 +1,4 @@
--- Row access: the number that names a key, the part of the rows that a look lends, and replace.
+-- Row access: the number of a key, the part of the rows that a look hands back, and replace.
 use Prim.Native.Nat.{ℕ, _+_, _*_}
 use mathlib.Core.List.{List, []}
 use mathlib.Core.Path.{_≡_}
@@ -8,13 +8,13 @@ use lib.Dec.{eqb}
 use Rattle.rules.specs.Choice.{pick}
 use Rattle.rules.specs.Words.{rowWords, rowAt, setRow}
 use Rattle.rules.specs.Values.{Outcome, plain, done, unless}
-use Rattle.rules.specs.Refusals.{entryNumber, sideEntryNumber, keyedNumber}
+use Rattle.rules.specs.Refusals.{entryNumber, sideEntryNumber, liveNumber}
 use Rattle.rules.specs.declared.Header.{Header}
 use Rattle.rules.specs.declared.Key.{Key}
 
 -- the number of a key, 0 for a live one. hop.rs 343-348
 unfoldable pub keyNumber : List ℕ → List ℕ → Header → Key → ℕ
-keyNumber l r hd k = keyedNumber (entryNumber l r hd) l hd k
+keyNumber l r hd k = liveNumber (entryNumber l r hd) l hd k
 
 -- the words of the part that a look at a key hands back: the row of a live key, else nothing. hop.rs 688-696 and 734-742
 unfoldable pub lookRule : List ℕ → List ℕ → Header → Key → List ℕ
@@ -32,13 +32,13 @@ abbrev pub startsAt : RefT (List ℕ) → RefT (List ℕ) → ℕ → Type 0
 startsAt part whole w = part .ptr ≡ (whole .ptr .0, w * wordBytes + whole .ptr .1)
 
 -- what a look promises of its part: the words, where they lie in the row table
-pub record Lies (l : List ℕ) (rows : RefT (List ℕ)) (hd : Header) (k : Key) (part : RefT (List ℕ)) : Type 0 where
+pub record RowPart (l : List ℕ) (rows : RefT (List ℕ)) (hd : Header) (k : Key) (part : RefT (List ℕ)) : Type 0 where
   pub words : part .now ≡ lookRule l (rows .now) hd k
   pub place : startsAt part rows (lookStart l (rows .now) hd k)
 
 -- replace copies eight words in from a side buffer
 unfoldable pub replaceNumber : List ℕ → List ℕ → Header → Key → List ℕ → ℕ
-replaceNumber l r hd k side = keyedNumber (sideEntryNumber l r hd (length side) rowWords) l hd k
+replaceNumber l r hd k side = liveNumber (sideEntryNumber l r hd (length side) rowWords) l hd k
 
 unfoldable pub replaceRule : List ℕ → List ℕ → Header → Key → List ℕ → Outcome
 replaceRule l r hd k side =

@@ -32,7 +32,7 @@ pub data Reply : Type 0 where
   says : Values → List ℕ → Reply
   shows : List ℕ → Reply
 
-pub record Lent : Type 0 where
+pub record Tables : Type 0 where
   pub links : List ℕ
   pub rows : List ℕ
   pub header : Header
@@ -46,7 +46,7 @@ abbrev pub unset : ℕ
 unset = 9
 
 -- tables of such words, and a header that does not fit them
-abbrev pub lend : ℕ → Lent
+abbrev pub lend : ℕ → Tables
 lend n =
     record {
       links = replicate (n * linkWords) unset;
@@ -61,13 +61,13 @@ buoy n = n ∷ 20 ∷ 30 ∷ 40 ∷ 50 ∷ 60 ∷ 70 ∷ 80 ∷ []
 abbrev pub key : ℕ → ℕ → Key
 key i v = record { index = i; version = v }
 
-abbrev told : Outcome → Reply × Lent
+abbrev told : Outcome → Reply × Tables
 told o = (says (o .answer) (o .row), record { links = o .links; rows = o .rows; header = o .header })
 
-abbrev seen : Lent → List ℕ → Reply × Lent
+abbrev seen : Tables → List ℕ → Reply × Tables
 seen s words = (shows words, s)
 
-abbrev act : Step → Lent → Reply × Lent
+abbrev act : Step → Tables → Reply × Tables
 act start s = told (startRule (s .links) (s .rows) (s .header))
 act (insert n) s = told (insertRule (s .links) (s .rows) (s .header) (buoy n))
 act (remove i v) s = told (removeRule (s .links) (s .rows) (s .header) (key i v))
@@ -82,18 +82,18 @@ act (see-next i) s = seen s (nextAt (s .links) (s .header .used) i ∷ [])
 act (see-other-end i) s = seen s (otherEndAt (s .links) (s .header .used) i ∷ [])
 act see-links s = seen s (take (s .header .used * linkWords) (s .links))
 
-abbrev run : List (Step × Reply) → Lent → List Reply
+abbrev run : List (Step × Reply) → Tables → List Reply
 run [] s = []
 run (x ∷ xs) s =
     let y = act (x .0) s in
     y .0 ∷ run xs (y .1)
 
-abbrev beside : Step × Reply → Reply
-beside x = x .1
+abbrev expected : Step × Reply → Reply
+expected x = x .1
 
 -- what a case replies, and what stands beside its steps
 abbrev pub replied : Case → List Reply
 replied x = run (x .script) (lend (x .lent))
 
 abbrev pub wanted : Case → List Reply
-wanted x = map beside (x .script)
+wanted x = map expected (x .script)

@@ -1,28 +1,28 @@
 -- Tried on the bench: document 01's cases A to L as a single table, each step beside what it must reply.
--- proofs/Bench has the one statement. Keys as (slot, version); every row has a word 0 that is not 0.
+-- proofs/Bench has the one statement. Keys as (slot, version); every row put in has a word 0 that is not 0.
 use Prim.Native.Nat.{ℕ}
 use mathlib.Core.List.{List, [], _∷_, _++_}
 use lib.ListN.{replicate}
-use Rattle.rules.specs.Words.{noRow, rowWords}
+use Rattle.rules.specs.Words.{zeroRow, rowWords}
 use Rattle.rules.specs.Values.{keyed, visited, done, refused}
 use Rattle.rules.specs.Refusals.{full, staleCursor}
 use Rattle.rules.specs.Bench.{Step, Reply, Case, start, insert, remove, clear, hop, rebuild, write-version, see-used, see-version, see-next, see-other-end, see-links, says, shows, key, buoy, unset}
 
 -- a key handed out; a key removed, with its row; a key met on a walk, with the cursor after it; done; a refusal
-abbrev gives : ℕ → ℕ → Reply
-gives i v = says (keyed (key i v)) noRow
+abbrev hands-out : ℕ → ℕ → Reply
+hands-out i v = says (keyed (key i v)) zeroRow
 
 abbrev takes : ℕ → ℕ → List ℕ → Reply
 takes i v row = says (keyed (key i v)) row
 
 abbrev meets : ℕ → ℕ → ℕ → Reply
-meets i v c = says (visited (key i v) c) noRow
+meets i v c = says (visited (key i v) c) zeroRow
 
 abbrev ended : Reply
-ended = says done noRow
+ended = says done zeroRow
 
 abbrev turned-down : ℕ → Reply
-turned-down n = says (refused n) noRow
+turned-down n = says (refused n) zeroRow
 
 abbrev word : ℕ → Reply
 word x = shows (x ∷ [])
@@ -34,10 +34,10 @@ abbrev written : Reply
 written = shows []
 
 abbrev three-in : List (Step × Reply)
-three-in = (start, ended) ∷ (insert 1, gives 1 1) ∷ (insert 2, gives 2 1) ∷ (insert 3, gives 3 1) ∷ []
+three-in = (start, ended) ∷ (insert 1, hands-out 1 1) ∷ (insert 2, hands-out 2 1) ∷ (insert 3, hands-out 3 1) ∷ []
 
 abbrev five-in : List (Step × Reply)
-five-in = three-in ++ ((insert 4, gives 4 1) ∷ (insert 5, gives 5 1) ∷ [])
+five-in = three-in ++ ((insert 4, hands-out 4 1) ∷ (insert 5, hands-out 5 1) ∷ [])
 
 abbrev on : ℕ → List (Step × Reply) → Case
 on n steps = record { lent = n; script = steps }
@@ -47,32 +47,32 @@ cases =
     -- A three in: (1,1) (2,1) (3,1), used 4
     on 16 (three-in ++ ((see-used, word 4) ∷ []))
     -- B then remove (2,1), insert: (2,3)
-    ∷ on 16 (three-in ++ ((remove 2 1, takes 2 1 (buoy 2)) ∷ (insert 4, gives 2 3) ∷ []))
+    ∷ on 16 (three-in ++ ((remove 2 1, takes 2 1 (buoy 2)) ∷ (insert 4, hands-out 2 3) ∷ []))
     -- C three in, remove slot 1: other_end(0) = 1, next(0) = 0; insert: (1,3)
     ∷ on 16
     (three-in
     ++ ((remove 1 1, takes 1 1 (buoy 1))
     ∷ (see-other-end 0, word 1)
     ∷ (see-next 0, word 0)
-    ∷ (insert 4, gives 1 3)
+    ∷ (insert 4, hands-out 1 3)
     ∷ []))
     -- D three in, remove 2 then 1; inserts: (2,3) (1,3) (4,1)
     ∷ on 16
     (three-in
     ++ ((remove 2 1, takes 2 1 (buoy 2))
     ∷ (remove 1 1, takes 1 1 (buoy 1))
-    ∷ (insert 4, gives 2 3)
-    ∷ (insert 5, gives 1 3)
-    ∷ (insert 6, gives 4 1)
+    ∷ (insert 4, hands-out 2 3)
+    ∷ (insert 5, hands-out 1 3)
+    ∷ (insert 6, hands-out 4 1)
     ∷ []))
     -- E three in, clear; inserts: (3,3) (2,3) (1,3) (4,1)
     ∷ on 16
     (three-in
     ++ ((clear, ended)
-    ∷ (insert 4, gives 3 3)
-    ∷ (insert 5, gives 2 3)
-    ∷ (insert 6, gives 1 3)
-    ∷ (insert 7, gives 4 1)
+    ∷ (insert 4, hands-out 3 3)
+    ∷ (insert 5, hands-out 2 3)
+    ∷ (insert 6, hands-out 1 3)
+    ∷ (insert 7, hands-out 4 1)
     ∷ []))
     -- F five in, remove 2, 4, 3; inserts: (4,3) (3,3) (2,3) (6,1)
     ∷ on 16
@@ -80,28 +80,28 @@ cases =
     ++ ((remove 2 1, takes 2 1 (buoy 2))
     ∷ (remove 4 1, takes 4 1 (buoy 4))
     ∷ (remove 3 1, takes 3 1 (buoy 3))
-    ∷ (insert 6, gives 4 3)
-    ∷ (insert 7, gives 3 3)
-    ∷ (insert 8, gives 2 3)
-    ∷ (insert 9, gives 6 1)
+    ∷ (insert 6, hands-out 4 3)
+    ∷ (insert 7, hands-out 3 3)
+    ∷ (insert 8, hands-out 2 3)
+    ∷ (insert 9, hands-out 6 1)
     ∷ []))
     -- G five in, remove 4, 2; inserts: (4,3) (2,3)
     ∷ on 16
     (five-in
     ++ ((remove 4 1, takes 4 1 (buoy 4))
     ∷ (remove 2 1, takes 2 1 (buoy 2))
-    ∷ (insert 6, gives 4 3)
-    ∷ (insert 7, gives 2 3)
+    ∷ (insert 6, hands-out 4 3)
+    ∷ (insert 7, hands-out 2 3)
     ∷ []))
     -- H five in, remove 3, 2; inserts: (3,3) (2,3)
     ∷ on 16
     (five-in
     ++ ((remove 3 1, takes 3 1 (buoy 3))
     ∷ (remove 2 1, takes 2 1 (buoy 2))
-    ∷ (insert 6, gives 3 3)
-    ∷ (insert 7, gives 2 3)
+    ∷ (insert 6, hands-out 3 3)
+    ∷ (insert 7, hands-out 2 3)
     ∷ []))
-    -- I five in, remove 2, 3; walk shows 1, 4, 5; cursor 3 gives 6
+    -- I five in, remove 2, 3; walk shows 1, 4, 5; cursor 3 hands-out 6
     ∷ on 16
     (five-in
     ++ ((remove 2 1, takes 2 1 (buoy 2))
@@ -119,11 +119,11 @@ cases =
     ∷ (rebuild (0 ∷ 1 ∷ []), ended)
     ∷ (remove 1 4294967295, takes 1 4294967295 (replicate rowWords unset))
     ∷ (see-version 1, word 0)
-    ∷ (insert 1, gives 1 1)
+    ∷ (insert 1, hands-out 1 1)
     ∷ [])
-    -- K lent 1: insert gives 5; lent 2: one insert, then 5
+    -- K lent 1: insert hands-out 5; lent 2: one insert, then 5
     ∷ on 1 ((start, ended) ∷ (insert 1, turned-down full) ∷ [])
-    ∷ on 2 ((start, ended) ∷ (insert 1, gives 1 1) ∷ (insert 2, turned-down full) ∷ [])
+    ∷ on 2 ((start, ended) ∷ (insert 1, hands-out 1 1) ∷ (insert 2, turned-down full) ∷ [])
     -- L rebuild of six slots, versions 0 1 2 1 1 1, lent 8; remove (4,1); inserts: (2,3) (4,3) (6,1)
     ∷ on 8
     ((write-version 0 0, written)
@@ -136,8 +136,8 @@ cases =
     ∷ (see-used, word 6)
     ∷ (see-links, shows (slot 0 2 2 0 ++ slot 1 0 0 0 ++ slot 2 0 0 2 ++ slot 1 0 0 0 ++ slot 1 0 0 0 ++ slot 1 0 0 0))
     ∷ (remove 4 1, takes 4 1 (replicate rowWords unset))
-    ∷ (insert 1, gives 2 3)
-    ∷ (insert 2, gives 4 3)
-    ∷ (insert 3, gives 6 1)
+    ∷ (insert 1, hands-out 2 3)
+    ∷ (insert 2, hands-out 4 3)
+    ∷ (insert 3, hands-out 6 1)
     ∷ [])
     ∷ []

@@ -1,5 +1,5 @@
 -- Clear: the whole soundness check, then the drain step to the end. hop.rs 647-649 and 1157-1161
-use Prim.Native.Nat.{ℕ, zero, suc}
+use Prim.Native.Nat.{ℕ, zero, suc, _+_}
 use mathlib.Core.List.{List}
 use Rattle.rules.specs.Values.{Outcome, plain, done, unless}
 use Rattle.rules.specs.Refusals.{entryNumber}
@@ -12,12 +12,7 @@ unfoldable pub drainTimes : ℕ → Outcome → Outcome
 drainTimes zero o = o
 drainTimes (suc n) o = drainTimes n (drainRule (o .links) (o .rows) (o .header))
 
--- what a drain to the end leaves: each step takes one row, so live steps come to the end
-abbrev pub emptied : List ℕ → List ℕ → Header → Outcome
-emptied l r hd = drainTimes (hd .live) (plain done hd l r)
-
-abbrev pub clearStep : Outcome → Outcome
-clearStep o = plain done (o .header) (o .links) (o .rows)
-
+-- to the end: in a sound table each step takes one row, and the one after the last row answers done
 unfoldable pub clearRule : List ℕ → List ℕ → Header → Outcome
-clearRule l r hd = unless l r hd (soundNumber (entryNumber l r hd) l hd) (clearStep (emptied l r hd))
+clearRule l r hd =
+    unless l r hd (soundNumber (entryNumber l r hd) l hd) (drainTimes (hd .live + 1) (plain done hd l r))

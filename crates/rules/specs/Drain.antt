@@ -18,7 +18,7 @@ drainNumber l hd q = passes ▸ (not (occupiedAt l (hd .used) q), damaged)
 unfoldable pub drainSlot : List ℕ → List ℕ → Header → ℕ → Outcome
 drainSlot l r hd q = unless l r hd (drainNumber l hd q) (removeSlot l r hd (keyAt l (hd .used) q))
 
--- q = other_end(0) + 1; done, with no link read, when live is 0
+-- q = other_end(0) + 1; done, with no next, prev or other_end read, when live is 0
 unfoldable pub drainRule : List ℕ → List ℕ → Header → Outcome
 drainRule l r hd =
     unless l r hd (entryNumber l r hd)

@@ -1,4 +1,4 @@
--- The hop step, from a cursor. hop.rs 1199-1216, and 1226-1251 for the end at used
+-- The hop step, from a cursor. hop.rs 1199-1216, and 1227-1241 for the end at used
 use Prim.Native.Nat.{ℕ, _+_}
 use mathlib.Core.List.{List}
 use mathlib.Core.Bool.{not}
@@ -7,14 +7,14 @@ use Rattle.rules.specs.Choice.{pick, both, either}
 use Rattle.rules.specs.Words.{otherEndAt, vacantAt, occupiedAt, keyAt}
 use Rattle.rules.specs.Values.{Values, Outcome, plain, visited, done, unless}
 use Rattle.rules.specs.Refusals.{_▸_, passes, damaged, staleCursor, astray, entryNumber}
-use Rattle.rules.specs.Runs.{insideRun}
+use Rattle.rules.specs.Runs.{pastFront}
 use Rattle.rules.specs.declared.Header.{Header}
 
 -- 6; then, where slot c is vacant: its back below used and vacant, at least c, and the slot after the back occupied or at used
 unfoldable pub hopNumber : List ℕ → Header → ℕ → ℕ → ℕ
 hopNumber l hd c back =
     passes
-    ▸ (insideRun l (hd .used) c, staleCursor)
+    ▸ (pastFront l (hd .used) c, staleCursor)
     ▸ (both (vacantAt l (hd .used) c) (astray l (hd .used) back), damaged)
     ▸ (both (vacantAt l (hd .used) c) (ltb back c), damaged)
     ▸ (both (vacantAt l (hd .used) c) (not (either (occupiedAt l (hd .used) (back + 1)) (eqb (back + 1) (hd .used)))), damaged)

@@ -36,7 +36,7 @@ runNumber k l hd x =
 abbrev pub lastSlot : InsertLinks → Bool
 lastSlot x = both (eqb (x .h) (x .b)) (not (eqb (x .b) 0))
 
--- where h = b, not 0: n below used and vacant, and not h; where h is not b: slot b − 1 vacant; 5 where b = 0 and used = lent
+-- where h = b, not 0: n below used and vacant, and not h; where h is not b: slot b − 1 vacant; else 2. Then 5 where b = 0 and used = lent
 unfoldable pub takeNumber : ℕ → List ℕ → Header → InsertLinks → ℕ
 takeNumber k l hd x =
     k

@@ -1,11 +1,11 @@
--- Rebuild: its tests, then relinking, then clearing the rows of vacant slots. hop.rs 1417-1472
+-- Rebuild: its tests, then relinking, then clearing the rows of vacant slots. hop.rs 1379-1404 (a slot) and 1417-1472
 use Prim.Native.Nat.{ℕ, zero, suc, _%_}
 use mathlib.Core.List.{List}
 use mathlib.Core.Bool.{Bool, not}
 use lib.ListN.{length, getD}
 use lib.Dec.{ltb, eqb}
 use Rattle.rules.specs.Choice.{pick, either, someBelow}
-use Rattle.rules.specs.Words.{lentOf, versionAt, setNext, setPrev, setOtherEnd, setRow, noRow, isOdd, vacantAt}
+use Rattle.rules.specs.Words.{lentOf, versionAt, setNext, setPrev, setOtherEnd, setRow, zeroRow, isOdd, vacantAt}
 use Rattle.rules.specs.Headers.{rebuilt}
 use Rattle.rules.specs.Values.{Outcome, plain, done, unless}
 use Rattle.rules.specs.Refusals.{_▸_, shape, wrongPresence, zeroOccupied, lentNumber}
@@ -13,17 +13,17 @@ use Rattle.rules.specs.Runs.{isFront, isBack, oddCount}
 use Rattle.rules.specs.declared.Header.{Header}
 
 -- a presence byte that is not 0 or 1, or not equal to the version's lowest bit
-unfoldable pub misplaced : List ℕ → List ℕ → ℕ → Bool
-misplaced l bytes i =
+unfoldable pub wrongByte : List ℕ → List ℕ → ℕ → Bool
+wrongByte l bytes i =
     either (ltb 1 (getD bytes i 0)) (not (eqb (getD bytes i 0) (versionAt l (length bytes) i % 2)))
 
--- n from 1 to lent, else 1; 7 for any slot; 8 for slot 0
+-- n from 1 to lent, else 1; 7 where any slot's byte is wrong; 8 where slot 0 is odd
 unfoldable pub rebuildNumber : List ℕ → List ℕ → List ℕ → ℕ
 rebuildNumber l r bytes =
     lentNumber (length l) (length r)
     ▸ (eqb (length bytes) 0, shape)
     ▸ (ltb (lentOf l) (length bytes), shape)
-    ▸ (someBelow (length bytes) (misplaced l bytes), wrongPresence)
+    ▸ (someBelow (length bytes) (wrongByte l bytes), wrongPresence)
     ▸ (isOdd (versionAt l (length bytes) 0), zeroOccupied)
 
 -- next, prev and other_end become zero in the slots below n
@@ -69,7 +69,7 @@ unfoldable pub clearedRows : List ℕ → ℕ → ℕ → List ℕ → List ℕ
 clearedRows l n zero r = r
 clearedRows l n (suc k) r =
     let rest = clearedRows l n k r in
-    pick (vacantAt l n k) (setRow rest k noRow) rest
+    pick (vacantAt l n k) (setRow rest k zeroRow) rest
 
 -- used becomes n, live the odd count
 abbrev pub rebuildStep : List ℕ → List ℕ → ℕ → Outcome

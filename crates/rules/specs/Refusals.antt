@@ -1,5 +1,5 @@
 -- The numbers given when a call is turned down: by name, and as chains in document 01's order.
--- Each segment takes the number so far; the first test that holds gives the number.
+-- A chain is made of segments; one that does not begin it takes the number so far. The first test that holds gives the number.
 use Prim.Native.Nat.{ℕ, _-_, _/_, _%_}
 use mathlib.Core.List.{List}
 use mathlib.Core.Bool.{Bool, not}
@@ -61,7 +61,7 @@ headerNumber k lent hd =
     ▸ (ltb lent (hd .used), shape)
     ▸ (ltb (hd .used - 1) (hd .live), shape)
 
--- the shape of what is lent and of the header whole
+-- all of 1 but the side buffer: what is lent, and the header whole
 unfoldable pub shapeNumber : List ℕ → List ℕ → Header → ℕ
 shapeNumber l r hd = headerNumber (lentNumber (length l) (length r)) (lentOf l) hd
 
@@ -80,19 +80,19 @@ liveKey l hd k =
     (both (isOdd (k .version)) (eqb (versionAt l (hd .used) (k .index)) (k .version)))
 
 -- 3: key with an even version; 4: key not live
-unfoldable pub keyedNumber : ℕ → List ℕ → Header → Key → ℕ
-keyedNumber k l hd key =
+unfoldable pub liveNumber : ℕ → List ℕ → Header → Key → ℕ
+liveNumber k l hd key =
     k
     ▸ (isEven (key .version), evenVersion)
     ▸ (not (liveKey l hd key), notLive)
 
--- what a call without a side buffer tests before anything else, and what one with a side buffer does
+-- what a call without a side buffer tests before anything else, and what one with a side buffer tests
 unfoldable pub entryNumber : List ℕ → List ℕ → Header → ℕ
 entryNumber l r hd = zeroNumber (shapeNumber l r hd) l hd
 
 unfoldable pub sideEntryNumber : List ℕ → List ℕ → Header → ℕ → ℕ → ℕ
 sideEntryNumber l r hd side n = zeroNumber (sideNumber (shapeNumber l r hd) side n) l hd
 
--- a link that is followed must be below used and its slot vacant
+-- a link goes astray: it is not below used, or its slot is not vacant
 abbrev pub astray : List ℕ → ℕ → ℕ → Bool
 astray l used i = not (vacantAt l used i)

@@ -4,7 +4,7 @@ use mathlib.Core.List.{List}
 use mathlib.Core.Bool.{Bool, not}
 use lib.Dec.{ltb, eqb}
 use Rattle.rules.specs.Choice.{pick, both}
-use Rattle.rules.specs.Words.{rise, versionAt, nextAt, prevAt, otherEndAt, setVersion, setNext, setPrev, setOtherEnd, noRow, rowAt, setRow, vacantAt}
+use Rattle.rules.specs.Words.{rise, versionAt, nextAt, prevAt, otherEndAt, setVersion, setNext, setPrev, setOtherEnd, zeroRow, rowAt, setRow, vacantAt}
 use Rattle.rules.specs.Headers.{oneLess}
 use Rattle.rules.specs.Values.{Outcome, keyed, unless}
 use Rattle.rules.specs.Refusals.{_▸_, passes, damaged, astray}
@@ -71,7 +71,7 @@ joinBoth l used left right =
     let e = otherEndAt l used right in
     setOtherEnd (setOtherEnd (setPrev (setNext l p n) n p) f e) e f
 
--- all links are read as they stood at the call, then written in this order
+-- the case at hand: in each, all links are read as they stood at the call, then written in the order named
 unfoldable pub freed : List ℕ → ℕ → ℕ → Beside → List ℕ
 freed l used i x =
     pick (x .leftVacant)
@@ -87,7 +87,7 @@ removeStep l r hd k x =
       row = rowAt r (hd .used) (k .index);
       header = oneLess hd;
       links = setVersion (freed l (hd .used) (k .index) x) (k .index) (rise (versionAt l (hd .used) (k .index)));
-      rows = setRow r (k .index) noRow;
+      rows = setRow r (k .index) zeroRow;
     }
 
 unfoldable pub removeBy : List ℕ → List ℕ → Header → Key → Beside → Outcome

@@ -22,12 +22,12 @@ pub record Run (l : List ℕ) (used f b : ℕ) : Type 0 where
   pub stops : suc b < used → versionAt l used (suc b) % 2 ≡ 1
 
 -- slot i vacant and i > 0 with i − 1 vacant too
-unfoldable pub insideRun : List ℕ → ℕ → ℕ → Bool
-insideRun l used i = both (vacantAt l used i) (both (ltb 0 i) (vacantAt l used (i - 1)))
+unfoldable pub pastFront : List ℕ → ℕ → ℕ → Bool
+pastFront l used i = both (vacantAt l used i) (both (ltb 0 i) (vacantAt l used (i - 1)))
 
 -- slot i is a run's front; a run's back
 unfoldable pub isFront : List ℕ → ℕ → ℕ → Bool
-isFront l used i = both (vacantAt l used i) (not (insideRun l used i))
+isFront l used i = both (vacantAt l used i) (not (pastFront l used i))
 
 unfoldable pub isBack : List ℕ → ℕ → ℕ → Bool
 isBack l used i = both (vacantAt l used i) (not (vacantAt l used (i + 1)))

@@ -1,4 +1,4 @@
--- A sound table: document 01's paragraph, clause by clause. What tests it is in Check.
+-- A sound table: document 01's paragraph, clause by clause. The test of it is in Check.
 use Prim.Native.Nat.{ℕ, _≤_, _%_}
 use mathlib.Core.List.{List, [], _∷_}
 use mathlib.Core.Path.{_≡_}

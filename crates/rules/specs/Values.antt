@@ -4,7 +4,7 @@ use mathlib.Core.List.{List}
 use mathlib.Core.Bool.{Bool, true, false}
 use lib.Dec.{eqb}
 use Rattle.rules.specs.Choice.{pick}
-use Rattle.rules.specs.Words.{noRow}
+use Rattle.rules.specs.Words.{zeroRow}
 use Rattle.rules.specs.declared.Header.{Header}
 use Rattle.rules.specs.declared.Key.{Key}
 use Rattle.rules.specs.declared.KeyAnswer.{KeyAnswer}
@@ -34,8 +34,8 @@ pub record Values : Type 0 where
   pub cursor : ℕ
   pub count : ℕ
 
-abbrev pub noKey : Key
-noKey = record { index = 0; version = 0 }
+abbrev pub zeroKey : Key
+zeroKey = record { index = 0; version = 0 }
 
 -- a key; a key with the cursor to go on from; a count; done; a refusal. What a case does not name is zero
 abbrev pub keyed : Key → Values
@@ -45,13 +45,13 @@ abbrev pub visited : Key → ℕ → Values
 visited k c = record { kind = gives; number = 0; key = k; cursor = c; count = 0 }
 
 abbrev pub counted : ℕ → Values
-counted n = record { kind = gives; number = 0; key = noKey; cursor = 0; count = n }
+counted n = record { kind = gives; number = 0; key = zeroKey; cursor = 0; count = n }
 
 abbrev pub done : Values
-done = record { kind = ends; number = 0; key = noKey; cursor = 0; count = 0 }
+done = record { kind = ends; number = 0; key = zeroKey; cursor = 0; count = 0 }
 
 abbrev pub refused : ℕ → Values
-refused n = record { kind = refuses; number = n; key = noKey; cursor = 0; count = 0 }
+refused n = record { kind = refuses; number = n; key = zeroKey; cursor = 0; count = 0 }
 
 -- the values of each case of each answer
 abbrev pub ofKey : KeyAnswer → Values
@@ -88,8 +88,9 @@ pub record Outcome : Type 0 where
   pub links : List ℕ
   pub rows : List ℕ
 
+-- an outcome with no row by value
 abbrev pub plain : Values → Header → List ℕ → List ℕ → Outcome
-plain v hd l r = record { answer = v; row = noRow; header = hd; links = l; rows = r }
+plain v hd l r = record { answer = v; row = zeroRow; header = hd; links = l; rows = r }
 
 -- the outcome that each struct stands for, beside the tables at exit
 abbrev pub numbered : Numbered → List ℕ → List ℕ → Outcome

@@ -56,7 +56,7 @@ prevAt l used i = linkAt l used i prevWord
 abbrev pub otherEndAt : List ℕ → ℕ → ℕ → ℕ
 otherEndAt l used i = linkAt l used i otherEndWord
 
--- the links with version(i), next(i), prev(i) or other_end(i) become x
+-- the links with version(i), next(i), prev(i) or other_end(i) made x
 abbrev pub setVersion : List ℕ → ℕ → ℕ → List ℕ
 setVersion l i x = setLink l i versionWord x
 
@@ -77,12 +77,12 @@ newSlot l i v = setOtherEnd (setPrev (setNext (setVersion l i v) i 0) i 0) i 0
 abbrev pub rowWithin : List ℕ → ℕ → Bool
 rowWithin r i = leb (i * rowWords + rowWords) (length r)
 
--- a zero row; row i; the rows with row i become s
-abbrev pub noRow : List ℕ
-noRow = replicate rowWords 0
+-- a zero row; row i; the rows with row i made s, which changes nothing if s is not a row
+abbrev pub zeroRow : List ℕ
+zeroRow = replicate rowWords 0
 
 unfoldable pub rowAt : List ℕ → ℕ → ℕ → List ℕ
-rowAt r used i = pick (both (ltb i used) (rowWithin r i)) (take rowWords (drop (i * rowWords) r)) noRow
+rowAt r used i = pick (both (ltb i used) (rowWithin r i)) (take rowWords (drop (i * rowWords) r)) zeroRow
 
 unfoldable pub setRow : List ℕ → ℕ → List ℕ → List ℕ
 setRow r i s = pick (both (eqb (length s) rowWords) (rowWithin r i)) (paste r (i * rowWords) s rowWords) r

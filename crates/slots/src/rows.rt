@@ -1,6 +1,6 @@
 // The row of a slot: copied in, copied out, cleared.
 ghost use mathlib.Core.Path.{_≡_};
-ghost use Rattle.rules.specs.Words.{noRow, rowAt, setRow};
+ghost use Rattle.rules.specs.Words.{zeroRow, rowAt, setRow};
 use rules::ROW_WORDS;
 use rules::Row;
 
@@ -24,7 +24,7 @@ pub fn put_row(rows: &mut [u32], i: u32, side: &[u32])
 
 // Row i becomes zero.
 pub fn clear_row(rows: &mut [u32], i: u32)
-    ensures { λ _. ⌜ now (rows .exit) ≡ setRow (now (rows .entry)) i noRow ⌝ }
+    ensures { λ _. ⌜ now (rows .exit) ≡ setRow (now (rows .entry)) i zeroRow ⌝ }
 {
     let zeros = [0u32; ROW_WORDS];
     put_row(rows, i, &zeros);

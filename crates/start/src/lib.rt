@@ -1,4 +1,4 @@
-// Start and room: the calls that look at no key.
+// Start and room: the calls that take no key and follow no link.
 ghost use mathlib.Core.Path.{_≡_};
 ghost use Rattle.rules.specs.Values.{numbered, roomed};
 ghost use Rattle.rules.specs.Start.{startRule, roomRule};
@@ -7,9 +7,9 @@ use rules::Header;
 use rules::LINK_WORDS;
 use rules::Numbered;
 use rules::Roomed;
-use slots::chain::entry_number;
-use slots::chain::lent_number;
 use slots::headers::fresh_header;
+use slots::refusals::entry_number;
+use slots::refusals::lent_number;
 use slots::rows::clear_row;
 use slots::words::new_slot;
 

@@ -1,5 +1,5 @@
 -- `access::reading::look` meets its contract. Assumes nothing.
-use Rattle.rules.proofs.Access.{lies-missed, lies-found, live-within}
+use Rattle.rules.proofs.Access.{part-missed, part-found, live-within}
 use mathlib.Core.Path.{refl, sym, _∙_}
 use native.Mathlib.Omega.{arith}
 use native.Mathlib.Nat.{add-sub-cancel-left}
@@ -23,7 +23,7 @@ part-result-end : tie.Need-part-result-end
 part-result-end c = search needs
 
 returns : tie.Need-returns
-returns c = lies-missed _ _ _ _ _ (λ z. c .before .if1 .taken (c .before .before .key-number .ensures ∙ z)) refl refl
+returns c = part-missed _ _ _ _ _ (λ z. c .before .if1 .taken (c .before .before .key-number .ensures ∙ z)) refl refl
 
 mul-at : tie.Need-mul-at
 mul-at c = search needs
@@ -45,7 +45,7 @@ part-result-end-2 c = omega (arith, live-within _ _ _ _ (sym (c .before .key-num
 
 returns-2 : tie.Need-returns-2
 returns-2 c =
-    lies-found _ _ _ _ _ (sym (c .before .before .key-number .ensures) ∙ c .before .if1 .left) (simp add-sub-cancel-left) refl
+    part-found _ _ _ _ _ (sym (c .before .before .key-number .ensures) ∙ c .before .if1 .left) (simp add-sub-cancel-left) refl
 
 pub look-spec : {M : Type 1} → statement M
 look-spec =

@@ -7,12 +7,12 @@ use Rattle.access.proofs.replacing.replace_number.Tie as tie
 side-entry-number-requires : tie.Need-side-entry-number-requires
 side-entry-number-requires c κs = search needs
 
-keyed-number-requires : tie.Need-keyed-number-requires
-keyed-number-requires c κs = search needs
+live-number-requires : tie.Need-live-number-requires
+live-number-requires c κs = search needs
 
 returns : tie.Need-returns
 unfolding replaceNumber
 returns c = cc
 
 pub replace-number-spec : {M : Type 1} → statement M
-replace-number-spec = tie.close (tie.spec side-entry-number-requires keyed-number-requires returns)
+replace-number-spec = tie.close (tie.spec side-entry-number-requires live-number-requires returns)

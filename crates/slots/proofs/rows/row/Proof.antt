@@ -1,5 +1,5 @@
 -- `slots::rows::row` meets its contract. Assumes nothing.
-use Rattle.rules.specs.Words.{rowWords, setRow, rowAt, noRow}
+use Rattle.rules.specs.Words.{rowWords, setRow, rowAt, zeroRow}
 use native.Mathlib.Nat.{add-sub-cancel-left}
 use native.Mathlib.Omega.{arith}
 use lib.Seq.{take-all}
@@ -13,7 +13,7 @@ use Rattle.slots.proofs.rows.row.Statement.{statement}
 use Rattle.slots.proofs.rows.row.Tie as tie
 
 -- a row put over a row of zeros is that row
-whole : (s : List ℕ) → length s ≡ rowWords → setRow noRow 0 s ≡ s
+whole : (s : List ℕ) → length s ≡ rowWords → setRow zeroRow 0 s ≡ s
 unfolding setRow
 whole s e = simp (eq-eqb _ _ e, append-nil) (take-all rowWords s (omega arith))
 

@@ -1,8 +1,8 @@
--- `slots::chain::live_key` meets its contract. Assumes nothing.
+-- `slots::refusals::live_key` meets its contract. Assumes nothing.
 use Rattle.rules.specs.Refusals.{liveKey}
 use borrow.Author.Needs.{needs}
-use Rattle.slots.proofs.chain.live_key.Statement.{statement}
-use Rattle.slots.proofs.chain.live_key.Tie as tie
+use Rattle.slots.proofs.refusals.live_key.Statement.{statement}
+use Rattle.slots.proofs.refusals.live_key.Tie as tie
 
 version-requires : tie.Need-version-requires
 version-requires c κs = search needs

@@ -1,8 +1,8 @@
--- `slots::chain::entry_number` meets its contract. Assumes nothing.
+-- `slots::refusals::entry_number` meets its contract. Assumes nothing.
 use Rattle.rules.specs.Refusals.{entryNumber}
 use borrow.Author.Needs.{needs}
-use Rattle.slots.proofs.chain.entry_number.Statement.{statement}
-use Rattle.slots.proofs.chain.entry_number.Tie as tie
+use Rattle.slots.proofs.refusals.entry_number.Statement.{statement}
+use Rattle.slots.proofs.refusals.entry_number.Tie as tie
 
 shape-number-requires : tie.Need-shape-number-requires
 shape-number-requires c κs = search needs

@@ -1,8 +1,8 @@
--- `slots::chain::side_number` meets its contract. Assumes nothing.
+-- `slots::refusals::side_number` meets its contract. Assumes nothing.
 use Rattle.rules.specs.Refusals.{sideNumber}
 use borrow.Author.Needs.{needs}
-use Rattle.slots.proofs.chain.side_number.Statement.{statement}
-use Rattle.slots.proofs.chain.side_number.Tie as tie
+use Rattle.slots.proofs.refusals.side_number.Statement.{statement}
+use Rattle.slots.proofs.refusals.side_number.Tie as tie
 
 or-if-requires : tie.Need-or-if-requires
 or-if-requires c κs = search needs

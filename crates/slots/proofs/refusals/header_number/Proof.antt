@@ -1,8 +1,8 @@
--- `slots::chain::header_number` meets its contract. Assumes nothing.
+-- `slots::refusals::header_number` meets its contract. Assumes nothing.
 use Rattle.rules.specs.Refusals.{headerNumber}
 use borrow.Author.Needs.{needs}
-use Rattle.slots.proofs.chain.header_number.Statement.{statement}
-use Rattle.slots.proofs.chain.header_number.Tie as tie
+use Rattle.slots.proofs.refusals.header_number.Statement.{statement}
+use Rattle.slots.proofs.refusals.header_number.Tie as tie
 
 one-below-requires : tie.Need-one-below-requires
 one-below-requires c κs = search needs

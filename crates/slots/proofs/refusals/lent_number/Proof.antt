@@ -1,8 +1,8 @@
--- `slots::chain::lent_number` meets its contract. Assumes nothing.
+-- `slots::refusals::lent_number` meets its contract. Assumes nothing.
 use Rattle.rules.specs.Refusals.{lentNumber}
 use borrow.Author.Needs.{needs}
-use Rattle.slots.proofs.chain.lent_number.Statement.{statement}
-use Rattle.slots.proofs.chain.lent_number.Tie as tie
+use Rattle.slots.proofs.refusals.lent_number.Statement.{statement}
+use Rattle.slots.proofs.refusals.lent_number.Tie as tie
 
 or-if-requires : tie.Need-or-if-requires
 or-if-requires c κs = search needs

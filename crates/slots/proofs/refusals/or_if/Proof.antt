@@ -1,8 +1,8 @@
--- `slots::chain::or_if` meets its contract. Assumes nothing.
+-- `slots::refusals::or_if` meets its contract. Assumes nothing.
 use Rattle.rules.specs.Refusals.{_▸_}
 use borrow.Author.Tests.{eq-eqb, ne-eqb}
-use Rattle.slots.proofs.chain.or_if.Statement.{statement}
-use Rattle.slots.proofs.chain.or_if.Tie as tie
+use Rattle.slots.proofs.refusals.or_if.Statement.{statement}
+use Rattle.slots.proofs.refusals.or_if.Tie as tie
 
 returns : tie.Need-returns
 unfolding _▸_

@@ -1,8 +1,8 @@
--- `slots::chain::shape_number` meets its contract. Assumes nothing.
+-- `slots::refusals::shape_number` meets its contract. Assumes nothing.
 use Rattle.rules.specs.Refusals.{shapeNumber}
 use borrow.Author.Needs.{needs}
-use Rattle.slots.proofs.chain.shape_number.Statement.{statement}
-use Rattle.slots.proofs.chain.shape_number.Tie as tie
+use Rattle.slots.proofs.refusals.shape_number.Statement.{statement}
+use Rattle.slots.proofs.refusals.shape_number.Tie as tie
 
 lent-number-requires : tie.Need-lent-number-requires
 lent-number-requires c κs = search needs

@@ -1,8 +1,8 @@
--- `slots::chain::zero_number` meets its contract. Assumes nothing.
+-- `slots::refusals::zero_number` meets its contract. Assumes nothing.
 use Rattle.rules.specs.Refusals.{zeroNumber}
 use borrow.Author.Needs.{needs}
-use Rattle.slots.proofs.chain.zero_number.Statement.{statement}
-use Rattle.slots.proofs.chain.zero_number.Tie as tie
+use Rattle.slots.proofs.refusals.zero_number.Statement.{statement}
+use Rattle.slots.proofs.refusals.zero_number.Tie as tie
 
 version-requires : tie.Need-version-requires
 version-requires c κs = search needs

@@ -1,8 +1,8 @@
--- `slots::chain::side_entry_number` meets its contract. Assumes nothing.
+-- `slots::refusals::side_entry_number` meets its contract. Assumes nothing.
 use Rattle.rules.specs.Refusals.{sideEntryNumber}
 use borrow.Author.Needs.{needs}
-use Rattle.slots.proofs.chain.side_entry_number.Statement.{statement}
-use Rattle.slots.proofs.chain.side_entry_number.Tie as tie
+use Rattle.slots.proofs.refusals.side_entry_number.Statement.{statement}
+use Rattle.slots.proofs.refusals.side_entry_number.Tie as tie
 
 shape-number-requires : tie.Need-shape-number-requires
 shape-number-requires c κs = search needs

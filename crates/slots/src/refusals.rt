@@ -1,9 +1,9 @@
-// The chains of refusals, segment by segment, as in rules/specs/Refusals: each takes the number so far.
+// The chains of refusals, segment by segment, as in rules/specs/Refusals.
 ghost use mathlib.Core.Path.{_≡_};
 ghost use Prim.Native.Nat.{_-_};
 ghost use lib.ListN.{length};
 ghost use Rattle.rules.specs.Choice.{both};
-ghost use Rattle.rules.specs.Refusals.{_▸_, lentNumber, headerNumber, shapeNumber, sideNumber, zeroNumber, liveKey, keyedNumber, entryNumber, sideEntryNumber};
+ghost use Rattle.rules.specs.Refusals.{_▸_, lentNumber, headerNumber, shapeNumber, sideNumber, zeroNumber, liveKey, liveNumber, entryNumber, sideEntryNumber};
 ghost use Rattle.rules.specs.Access.{keyNumber};
 use crate::words::version;
 use rules::DAMAGED;
@@ -113,8 +113,8 @@ pub fn live_key(links: &[u32], header: Header, key: Key) -> bool
     and(index < used, held)
 }
 
-pub fn keyed_number(k: u32, links: &[u32], header: Header, key: Key) -> u32
-    ensures { λ r. ⌜ r ≡ keyedNumber k (now (links .entry)) header key ⌝ }
+pub fn live_number(k: u32, links: &[u32], header: Header, key: Key) -> u32
+    ensures { λ r. ⌜ r ≡ liveNumber k (now (links .entry)) header key ⌝ }
 {
     let k = or_if(k, key.version % 2 == 0, EVEN_VERSION);
     or_if(k, !live_key(links, header, key), NOT_LIVE)
@@ -124,5 +124,5 @@ pub fn keyed_number(k: u32, links: &[u32], header: Header, key: Key) -> u32
 pub fn key_number(links: &[u32], rows: &[u32], header: Header, key: Key) -> u32
     ensures { λ r. ⌜ r ≡ keyNumber (now (links .entry)) (now (rows .entry)) header key ⌝ }
 {
-    keyed_number(entry_number(links, rows, header), links, header, key)
+    live_number(entry_number(links, rows, header), links, header, key)
 }

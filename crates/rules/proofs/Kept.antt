@@ -1,0 +1,64 @@
+-- What is written below a slot leaves the tables from that slot upward. Assumes nothing.
+use Prim.Native.Nat.{ℕ, _+_, _-_, _*_, _≤_, _<_}
+use mathlib.Core.List.{List}
+use mathlib.Core.Bool.{Bool, true, false}
+use mathlib.Core.Path.{_≡_, refl, sym, ap, _∙_}
+use native.Mathlib.Omega.{arith}
+use lib.ListN.{length, drop}
+use lib.Seq.{drop-set-lt, drop-drop, drop-paste, paste}
+use lib.Dec.{eqb}
+use borrow.Author.Tests.{leb-true, eqb-true}
+use Rattle.rules.specs.Choice.{pick, both}
+use Rattle.rules.specs.Words.{linkWords, rowWords, versionWord, nextWord, prevWord, otherEndWord, setLink, setVersion, setNext, setPrev, newSlot, rowWithin, setRow}
+use Rattle.rules.specs.Values.{Outcome, refusal, unless}
+use Rattle.rules.specs.NeverRead.{reached, Kept}
+use Rattle.rules.specs.declared.Header.{Header}
+
+-- a link word; a slot; a row
+pub link-kept : (n : ℕ) (l : List ℕ) (i w x : ℕ) → i * linkWords + w < n → drop n (setLink l i w x) ≡ drop n l
+unfolding setLink
+link-kept n l i w x h = drop-set-lt n l (i * linkWords + w) x h
+
+pub slot-kept : (l : List ℕ) (i v : ℕ) → drop ((i + 1) * linkWords) (newSlot l i v) ≡ drop ((i + 1) * linkWords) l
+unfolding newSlot
+slot-kept l i v =
+    let n = (i + 1) * linkWords in
+    let l₁ = setVersion l i v in
+    let l₂ = setNext l₁ i 0 in
+    let l₃ = setPrev l₂ i 0 in
+    link-kept n l₃ i otherEndWord 0 (omega arith)
+    ∙ link-kept n l₂ i prevWord 0 (omega arith)
+    ∙ link-kept n l₁ i nextWord 0 (omega arith)
+    ∙ link-kept n l i versionWord v (omega arith)
+
+paste-kept : (n at k : ℕ) (r s : List ℕ) → at + k ≤ n → at ≤ length r → k ≤ length s → drop n (paste r at s k) ≡ drop n r
+paste-kept n at k r s h i j =
+    let e : at + k + (n - (at + k)) ≡ n = omega arith in
+    ap (λ (x : ℕ). drop x (paste r at s k)) (sym e)
+    ∙ sym (drop-drop (n - (at + k)) (at + k) (paste r at s k))
+    ∙ ap (drop (n - (at + k))) (drop-paste r at s k i j)
+    ∙ drop-drop (n - (at + k)) (at + k) r
+    ∙ ap (λ (x : ℕ). drop x r) e
+
+pub row-kept : (m : ℕ) (r : List ℕ) (i : ℕ) (s : List ℕ) → i < m → drop (m * rowWords) (setRow r i s) ≡ drop (m * rowWords) r
+unfolding setRow
+row-kept m r i s h = at (eqb (length s) rowWords) (rowWithin r i) (eqb-true _ _) (leb-true _ _)
+  where
+    at : (t u : Bool) → (t ≡ true → length s ≡ rowWords) → (u ≡ true → i * rowWords + rowWords ≤ length r) →
+        drop (m * rowWords) (pick (both t u) (paste r (i * rowWords) s rowWords) r) ≡ drop (m * rowWords) r
+    at true true f g =
+        let whole : length s ≡ rowWords = f refl in
+        let within : i * rowWords + rowWords ≤ length r = g refl in
+        paste-kept (m * rowWords) (i * rowWords) rowWords r s (omega arith) (omega arith) (omega arith)
+    at true false f g = refl
+    at false u f g = refl
+
+-- a refusal keeps everything
+pub unless-kept : (m : ℕ) (l r : List ℕ) (hd : Header) (n : ℕ) (o : Outcome) → (n ≡ 0 → Kept (reached m o) l r o) →
+    Kept (reached m (unless l r hd n o)) l r (unless l r hd n o)
+unfolding unless
+unless-kept m l r hd n o h = at (eqb n 0) (eqb-true n 0)
+  where
+    at : (t : Bool) → (t ≡ true → n ≡ 0) → Kept (reached m (pick t o (refusal l r hd n))) l r (pick t o (refusal l r hd n))
+    at true f = h (f refl)
+    at false f = record { links = refl; rows = refl }
