@@ -8,15 +8,7 @@ use lib.ListN.{length, take, drop, length-take, length-drop, drop-of-length-le}
 use lib.Seq.{take-all, drop-drop}
 use borrow.Rule.Slice.PartMut.{putMid}
 use Rattle.rules.specs.Words.{rowWords, setRow}
-use Rattle.rules.proofs.Agree.{set-row}
-
--- a row set in a part of eight words is the part
-whole : (part side : List ℕ) → length side ≡ rowWords → length part ≡ rowWords → setRow part 0 side ≡ side
-whole part side e h =
-    set-row part 0 side e (omega arith)
-    ∙ ap (λ (w : List ℕ). take rowWords side ++ w) (drop-of-length-le part {i = rowWords} (omega arith))
-    ∙ append-nil (take rowWords side)
-    ∙ take-all rowWords side (omega arith)
+use Rattle.rules.proofs.Rows.{set-row, set-whole-row}
 
 module _ (rows side : List ℕ) (i : ℕ) (row : length side ≡ rowWords) (within : i * rowWords + rowWords ≤ length rows) where
   -- the part and the rest, with the end less the start worked out
@@ -29,7 +21,7 @@ module _ (rows side : List ℕ) (i : ℕ) (row : length side ≡ rowWords) (with
       simp (
         add-sub-cancel-left,
         drop-drop,
-        whole part side row eight,
+        set-whole-row part side row eight,
         set-row rows i side row within,
         take-all rowWords side (omega arith),
         append-assoc,

@@ -8,7 +8,7 @@ use rules::Numbered;
 use rules::ROW_WORDS;
 use slots::refusals::live_number;
 use slots::refusals::side_entry_number;
-use slots::rows::put_row;
+use slots::rows::set_row;
 
 fn replace_number(links: &[u32], rows: &[u32], header: Header, key: Key, side: &[u32]) -> u32
     ensures { λ r. ⌜ r ≡ replaceNumber (now (links .entry)) (now (rows .entry)) header key (now (side .entry)) ⌝ }
@@ -28,6 +28,6 @@ pub fn replace(links: &[u32], rows: &mut [u32], header: Header, key: Key, side: 
     }
     let at = index * ROW_WORDS;
     let end = at + ROW_WORDS;
-    put_row(&mut rows[at..end], 0, side);
+    set_row(&mut rows[at..end], 0, side);
     Numbered { number: 0, header }
 }

@@ -12,7 +12,8 @@ use lib.Dec.{ltb, leb, eqb}
 use borrow.Author.Tests.{ltb-true, leb-true, eqb-true, eq-eqb, le-leb}
 use Rattle.rules.specs.Choice.{pick, both}
 use Rattle.rules.specs.Words.{linkWords, rowWords, versionWord, nextWord, prevWord, otherEndWord, linkAt, setLink, newSlot, rowWithin, rowAt, setRow, zeroRow}
-use Rattle.rules.specs.NeverRead.{AgreeTo, AgreeBelow}
+use Rattle.rules.specs.NeverRead.{AgreeTo}
+use Rattle.rules.proofs.Rows.{set-row}
 
 by-equal : (n : ℕ) (a a′ b b′ : List ℕ) → a ≡ a′ → b ≡ b′ → AgreeTo n a b → AgreeTo n a′ b′
 by-equal n a a′ b b′ p q g =
@@ -66,7 +67,7 @@ module _ (at : ℕ) (s a b : List ℕ) where
   paste-edge-agrees g (suc k) h j =
       moved (suc (at + k)) (at + suc k) _ _ (omega arith) (turn (suc (at + k)) k (g .lengths) h j (edge-agrees (at + k) _ _ (paste-edge-agrees g k (omega arith) (omega arith)) (getD s k 0)))
 
--- link words below slot m: read, written, and slot m filled
+-- link words below slot m: read, and slot m filled
 module _ (m : ℕ) (l l′ : List ℕ) (g : AgreeTo (m * linkWords) l l′) where
   pub same-link : (i w : ℕ) → w < linkWords → linkAt l m i w ≡ linkAt l′ m i w
   unfolding linkAt
@@ -75,10 +76,6 @@ module _ (m : ℕ) (l l′ : List ℕ) (g : AgreeTo (m * linkWords) l l′) wher
       at : (t : Bool) → (t ≡ true → i < m) → pick t (getD l (i * linkWords + w) 0) 0 ≡ pick t (getD l′ (i * linkWords + w) 0) 0
       at true k = let j : i < m = k refl in same-word (m * linkWords) l l′ g (i * linkWords + w) (omega arith)
       at false k = refl
-
-  pub link-agrees : (i w x : ℕ) → AgreeTo (m * linkWords) (setLink l i w x) (setLink l′ i w x)
-  unfolding setLink
-  link-agrees i w x = set-agrees (m * linkWords) l l′ g (i * linkWords + w) x
 
 word-filled : (n i : ℕ) (a b : List ℕ) → i ≡ n → AgreeTo n a b → (x : ℕ) → AgreeTo (suc n) (set a i x) (set b i x)
 word-filled n i a b e g x = subst (λ (k : ℕ). AgreeTo (suc n) (set a k x) (set b k x)) (sym e) (edge-agrees n a b g x)
@@ -102,12 +99,6 @@ part-of at k n a h j =
 pub same-part : (at k n : ℕ) (a b : List ℕ) → AgreeTo n a b → at + k ≤ n → at ≤ length a → take k (drop at a) ≡ take k (drop at b)
 same-part at k n a b g h j =
     part-of at k n a h j ∙ ap (λ (w : List ℕ). drop at (take (at + k) w)) (g .words) ∙ sym (part-of at k n b h (omega (arith, g .lengths)))
-
--- where the row is within the table and the side buffer is a row, the row is pasted over
-pub set-row : (r : List ℕ) (i : ℕ) (s : List ℕ) → length s ≡ rowWords → i * rowWords + rowWords ≤ length r →
-    setRow r i s ≡ paste r (i * rowWords) s rowWords
-unfolding setRow
-set-row r i s h j = simp (eq-eqb _ _ h, le-leb _ _ j)
 
 pub same-row : (m : ℕ) (r r′ : List ℕ) → AgreeTo (m * rowWords) r r′ → (i : ℕ) → rowAt r m i ≡ rowAt r′ m i
 unfolding rowAt

@@ -4,6 +4,7 @@ pub mod Shape
 pub mod Outcomes
 pub mod Access
 pub mod Settled
+pub mod Rows
 pub mod Agree
 pub mod Kept
 pub mod NeverRead

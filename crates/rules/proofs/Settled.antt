@@ -121,62 +121,62 @@ number-back n = go (eqb n 0) (eqb-true n 0)
     go false h = refl
 
 -- start, replace, rebuild, the soundness check
-pub numbered-settles : Readable Numbered numbered
-numbered-settles =
+pub numbered-readable : Readable Numbered numbered
+numbered-readable =
     with-header ofNumber (λ v. v .number) number-back (λ x. x .number) (λ x. x .header)
     (λ n hd. record { number = n; header = hd }) (λ x. refl)
 
 -- insert
-pub inserted-settles : Readable Inserted inserted
-inserted-settles =
+pub inserted-readable : Readable Inserted inserted
+inserted-readable =
     with-header ofKey keyOf key-back (λ x. x .answer) (λ x. x .header)
     (λ a hd. record { answer = a; header = hd }) (λ x. refl)
 
 -- remove
-pub removed-settles : Readable Removed removed
-removed-settles =
+pub removed-readable : Readable Removed removed
+removed-readable =
     with-row ofKey keyOf key-back (λ x. x .answer) (λ x. x .header) (λ x. x .row)
     (λ a w hd. record { answer = a; row = w; header = hd }) (λ x. refl)
 
 -- the hop step
-pub hopped-settles : Readable Hopped hopped
-hopped-settles =
+pub hopped-readable : Readable Hopped hopped
+hopped-readable =
     with-header ofHop hopOf hop-back (λ x. x .answer) (λ x. x .header)
     (λ a hd. record { answer = a; header = hd }) (λ x. refl)
 
 -- the drain step
-pub drained-settles : Readable Drained drained
-drained-settles =
+pub drained-readable : Readable Drained drained
+drained-readable =
     with-row ofDrain drainOf drain-back (λ x. x .answer) (λ x. x .header) (λ x. x .row)
     (λ a w hd. record { answer = a; row = w; header = hd }) (λ x. refl)
 
 -- clear
-pub cleared-settles : Readable Cleared cleared
-cleared-settles =
+pub cleared-readable : Readable Cleared cleared
+cleared-readable =
     with-header ofClear clearOf clear-back (λ x. x .answer) (λ x. x .header)
     (λ a hd. record { answer = a; header = hd }) (λ x. refl)
 
 -- retain
-pub retained-settles : Readable Retained retained
-retained-settles =
+pub retained-readable : Readable Retained retained
+retained-readable =
     with-header ofCount countOf count-back (λ x. x .answer) (λ x. x .header)
     (λ a hd. record { answer = a; header = hd }) (λ x. refl)
 
 -- room
-pub roomed-settles : Readable Roomed roomed
-roomed-settles =
+pub roomed-readable : Readable Roomed roomed
+roomed-readable =
     with-header ofCount countOf count-back (λ x. x .answer) (λ x. x .header)
     (λ a hd. record { answer = a; header = hd }) (λ x. refl)
 
 -- call by call
 pub start-settled : (l r : List ℕ) (hd : Header) → OneOutcome numbered (startRule l r hd)
-start-settled l r hd = settled numbered numbered-settles (startRule l r hd)
+start-settled l r hd = settled numbered numbered-readable (startRule l r hd)
 
 pub room-settled : (l r : List ℕ) (hd : Header) → OneOutcome roomed (roomRule l r hd)
-room-settled l r hd = settled roomed roomed-settles (roomRule l r hd)
+room-settled l r hd = settled roomed roomed-readable (roomRule l r hd)
 
 pub replace-settled : (l r : List ℕ) (hd : Header) (k : Key) (side : List ℕ) → OneOutcome numbered (replaceRule l r hd k side)
-replace-settled l r hd k side = settled numbered numbered-settles (replaceRule l r hd k side)
+replace-settled l r hd k side = settled numbered numbered-readable (replaceRule l r hd k side)
 
 pub key-number-settled : (l r : List ℕ) (hd : Header) (k : Key) (m n : ℕ) → m ≡ keyNumber l r hd k → n ≡ keyNumber l r hd k → m ≡ n
 key-number-settled l r hd k m n p q = p ∙ sym q

@@ -76,7 +76,7 @@ both-true : (a b : Bool) → both a b ≡ true → (a ≡ true) × (b ≡ true)
 both-true true b e = (refl, e)
 both-true false b e = absurd (eqb-false 0 1 refl (cc))
 
--- past the tests of a key its slot is in use and holds its version
+-- past the tests of a key its slot is in use
 pub held : (k : ℕ) (l : List ℕ) (hd : Header) (key : Key) → liveNumber k l hd key ≡ 0 →
     (k ≡ 0) × (key .index < hd .used)
 unfolding liveNumber liveKey

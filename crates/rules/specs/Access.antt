@@ -14,15 +14,15 @@ use Rattle.rules.specs.declared.Key.{Key}
 
 -- the number of a key, 0 for a live one. hop.rs 343-348
 unfoldable pub keyNumber : List ℕ → List ℕ → Header → Key → ℕ
-keyNumber l r hd k = liveNumber (entryNumber l r hd) l hd k
+keyNumber l r hd key = liveNumber (entryNumber l r hd) l hd key
 
 -- the words of the part that a look at a key hands back: the row of a live key, else nothing. hop.rs 688-696 and 734-742
 unfoldable pub lookRule : List ℕ → List ℕ → Header → Key → List ℕ
-lookRule l r hd k = pick (eqb (keyNumber l r hd k) 0) (rowAt r (hd .used) (k .index)) []
+lookRule l r hd key = pick (eqb (keyNumber l r hd key) 0) (rowAt r (hd .used) (key .index)) []
 
 -- the word of the row table that the part starts at: eight times the slot index, and 0 for an empty part
 unfoldable pub lookStart : List ℕ → List ℕ → Header → Key → ℕ
-lookStart l r hd k = pick (eqb (keyNumber l r hd k) 0) (k .index * rowWords) 0
+lookStart l r hd key = pick (eqb (keyNumber l r hd key) 0) (key .index * rowWords) 0
 
 -- the bytes of a word; part points at word w of what whole points at
 abbrev pub wordBytes : ℕ
@@ -32,14 +32,14 @@ abbrev pub startsAt : RefT (List ℕ) → RefT (List ℕ) → ℕ → Type 0
 startsAt part whole w = part .ptr ≡ (whole .ptr .0, w * wordBytes + whole .ptr .1)
 
 -- what a look promises of its part: the words, where they lie in the row table
-pub record RowPart (l : List ℕ) (rows : RefT (List ℕ)) (hd : Header) (k : Key) (part : RefT (List ℕ)) : Type 0 where
-  pub words : part .now ≡ lookRule l (rows .now) hd k
-  pub place : startsAt part rows (lookStart l (rows .now) hd k)
+pub record RowPart (l : List ℕ) (rows : RefT (List ℕ)) (hd : Header) (key : Key) (part : RefT (List ℕ)) : Type 0 where
+  pub words : part .now ≡ lookRule l (rows .now) hd key
+  pub place : startsAt part rows (lookStart l (rows .now) hd key)
 
--- replace copies eight words in from a side buffer
+-- replace copies eight words in from a side buffer. hop.rs has a write through get_mut, 734-742
 unfoldable pub replaceNumber : List ℕ → List ℕ → Header → Key → List ℕ → ℕ
-replaceNumber l r hd k side = liveNumber (sideEntryNumber l r hd (length side) rowWords) l hd k
+replaceNumber l r hd key side = liveNumber (sideEntryNumber l r hd (length side) rowWords) l hd key
 
 unfoldable pub replaceRule : List ℕ → List ℕ → Header → Key → List ℕ → Outcome
-replaceRule l r hd k side =
-    unless l r hd (replaceNumber l r hd k side) (plain done hd l (setRow r (k .index) side))
+replaceRule l r hd key side =
+    unless l r hd (replaceNumber l r hd key side) (plain done hd l (setRow r (key .index) side))

@@ -1,4 +1,4 @@
--- The soundness check: a test of Sound that can be carried out, in passes over the slots below used and one along the chain.
+-- The soundness check, which hop.rs does not have: a test of Sound that can be carried out, in passes over the slots below used and one along the chain.
 use Prim.Native.Nat.{ℕ, zero, suc}
 use mathlib.Core.List.{List}
 use mathlib.Core.Bool.{Bool, false, not}
@@ -34,7 +34,7 @@ soundTest l hd =
 
 -- the whole soundness check, after the number so far
 unfoldable pub soundNumber : ℕ → List ℕ → Header → ℕ
-soundNumber k l hd = k ▸ (not (soundTest l hd), damaged)
+soundNumber n l hd = n ▸ (not (soundTest l hd), damaged)
 
 -- soundness check: accepts exactly the sound tables, else 2
 unfoldable pub checkRule : List ℕ → List ℕ → Header → Outcome

@@ -24,8 +24,8 @@ insertLinks l used =
 
 -- h and b below used and vacant; h ≤ b; other_end(b) = h; live < used − 1 where b is not 0
 unfoldable pub runNumber : ℕ → List ℕ → Header → InsertLinks → ℕ
-runNumber k l hd x =
-    k
+runNumber n l hd x =
+    n
     ▸ (astray l (hd .used) (x .h), damaged)
     ▸ (astray l (hd .used) (x .b), damaged)
     ▸ (ltb (x .b) (x .h), damaged)
@@ -38,8 +38,8 @@ lastSlot x = both (eqb (x .h) (x .b)) (not (eqb (x .b) 0))
 
 -- where h = b, not 0: n below used and vacant, and not h; where h is not b: slot b − 1 vacant; else 2. Then 5 where b = 0 and used = lent
 unfoldable pub takeNumber : ℕ → List ℕ → Header → InsertLinks → ℕ
-takeNumber k l hd x =
-    k
+takeNumber n l hd x =
+    n
     ▸ (both (lastSlot x) (astray l (hd .used) (x .n)), damaged)
     ▸ (both (lastSlot x) (eqb (x .n) (x .h)), damaged)
     ▸ (both (not (eqb (x .h) (x .b))) (astray l (hd .used) (x .b - 1)), damaged)

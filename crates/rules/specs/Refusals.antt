@@ -34,6 +34,10 @@ wrongPresence = 7
 abbrev pub zeroOccupied : ℕ
 zeroOccupied = 8
 
+-- given by the program alone
+abbrev pub brokenStream : ℕ
+brokenStream = 9
+
 -- what a chain starts with: no number
 abbrev pub passes : ℕ
 passes = 0
@@ -41,7 +45,7 @@ passes = 0
 -- one more test: the number that there is stays; where there is none, that of the test if it holds
 infixl 20 _▸_
 unfoldable pub _▸_ : ℕ → Bool × ℕ → ℕ
-k ▸ c = pick (eqb k 0) (pick (c .0) (c .1) 0) k
+n ▸ c = pick (eqb n 0) (pick (c .0) (c .1) 0) n
 
 -- 1: link words not 4 per slot, row words not 8, slot counts differ, lent count 0 or over 4,096
 unfoldable pub lentNumber : ℕ → ℕ → ℕ
@@ -55,8 +59,8 @@ lentNumber links rows =
 
 -- 1: used 0 or over lent, live over used − 1
 unfoldable pub headerNumber : ℕ → ℕ → Header → ℕ
-headerNumber k lent hd =
-    k
+headerNumber n lent hd =
+    n
     ▸ (eqb (hd .used) 0, shape)
     ▸ (ltb lent (hd .used), shape)
     ▸ (ltb (hd .used - 1) (hd .live), shape)
@@ -65,24 +69,24 @@ headerNumber k lent hd =
 unfoldable pub shapeNumber : List ℕ → List ℕ → Header → ℕ
 shapeNumber l r hd = headerNumber (lentNumber (length l) (length r)) (lentOf l) hd
 
--- 1: a side buffer of the wrong length, where n is the right one
+-- 1: a side buffer of the wrong length, where another is asked for
 unfoldable pub sideNumber : ℕ → ℕ → ℕ → ℕ
-sideNumber k side n = k ▸ (not (eqb side n), shape)
+sideNumber n side asked = n ▸ (not (eqb side asked), shape)
 
 -- 2: slot 0 odd
 unfoldable pub zeroNumber : ℕ → List ℕ → Header → ℕ
-zeroNumber k l hd = k ▸ (isOdd (versionAt l (hd .used) 0), damaged)
+zeroNumber n l hd = n ▸ (isOdd (versionAt l (hd .used) 0), damaged)
 
 -- a key is live when the index is below used and the version is odd and equals the slot's
 unfoldable pub liveKey : List ℕ → Header → Key → Bool
-liveKey l hd k =
-    both (ltb (k .index) (hd .used))
-    (both (isOdd (k .version)) (eqb (versionAt l (hd .used) (k .index)) (k .version)))
+liveKey l hd key =
+    both (ltb (key .index) (hd .used))
+    (both (isOdd (key .version)) (eqb (versionAt l (hd .used) (key .index)) (key .version)))
 
 -- 3: key with an even version; 4: key not live
 unfoldable pub liveNumber : ℕ → List ℕ → Header → Key → ℕ
-liveNumber k l hd key =
-    k
+liveNumber n l hd key =
+    n
     ▸ (isEven (key .version), evenVersion)
     ▸ (not (liveKey l hd key), notLive)
 
@@ -91,7 +95,7 @@ unfoldable pub entryNumber : List ℕ → List ℕ → Header → ℕ
 entryNumber l r hd = zeroNumber (shapeNumber l r hd) l hd
 
 unfoldable pub sideEntryNumber : List ℕ → List ℕ → Header → ℕ → ℕ → ℕ
-sideEntryNumber l r hd side n = zeroNumber (sideNumber (shapeNumber l r hd) side n) l hd
+sideEntryNumber l r hd side asked = zeroNumber (sideNumber (shapeNumber l r hd) side asked) l hd
 
 -- a link goes astray: it is not below used, or its slot is not vacant
 abbrev pub astray : List ℕ → ℕ → ℕ → Bool

@@ -24,6 +24,8 @@ pub const WRONG_PRESENCE: u32 = 7;
 
 pub const ZERO_OCCUPIED: u32 = 8;
 
+pub const BROKEN_STREAM: u32 = 9;
+
 // Slots in use, slot 0 included, and rows live.
 pub struct Header {
     pub used: u32,
@@ -79,38 +81,45 @@ pub struct Numbered {
     pub header: Header,
 }
 
+// What insert hands back.
 pub struct Inserted {
     pub answer: KeyAnswer,
     pub header: Header,
 }
 
+// What remove hands back: the row that was there, zero on refusal.
 pub struct Removed {
     pub answer: KeyAnswer,
     pub row: Row,
     pub header: Header,
 }
 
+// What the hop step hands back.
 pub struct Hopped {
     pub answer: HopAnswer,
     pub header: Header,
 }
 
+// What the drain step hands back: the row that was there, zero when done or refused.
 pub struct Drained {
     pub answer: DrainAnswer,
     pub row: Row,
     pub header: Header,
 }
 
+// What clear hands back.
 pub struct Cleared {
     pub answer: ClearAnswer,
     pub header: Header,
 }
 
+// What retain hands back: how many rows went.
 pub struct Retained {
     pub answer: CountAnswer,
     pub header: Header,
 }
 
+// What room hands back.
 pub struct Roomed {
     pub answer: CountAnswer,
     pub header: Header,

@@ -20,17 +20,17 @@ use rules::SHAPE;
 pub const PASSES: u32 = 0;
 
 // One more test of a chain.
-pub fn or_if(k: u32, test: bool, number: u32) -> u32
-    ensures { λ r. ⌜ r ≡ k ▸ (test, number) ⌝ }
+pub fn or_if(n: u32, test: bool, number: u32) -> u32
+    ensures { λ r. ⌜ r ≡ n ▸ (test, number) ⌝ }
 {
-    if k != 0 {
-        return k;
+    if n != PASSES {
+        return n;
     }
-    if test { number } else { 0 }
+    if test { number } else { PASSES }
 }
 
-// Both tests, each already made.
-pub fn and(a: bool, b: bool) -> bool
+// Both tests hold.
+pub fn both(a: bool, b: bool) -> bool
     ensures { λ r. ⌜ r ≡ both a b ⌝ }
 {
     if a { b } else { false }
@@ -47,42 +47,42 @@ pub fn one_below(n: u32) -> u32
 pub fn lent_number(links: usize, rows: usize) -> u32
     ensures { λ r. ⌜ r ≡ lentNumber links rows ⌝ }
 {
-    let k = or_if(PASSES, links % LINK_WORDS != 0, SHAPE);
-    let k = or_if(k, rows % ROW_WORDS != 0, SHAPE);
-    let k = or_if(k, links / LINK_WORDS != rows / ROW_WORDS, SHAPE);
-    let k = or_if(k, links / LINK_WORDS == 0, SHAPE);
-    or_if(k, LIMIT < links / LINK_WORDS, SHAPE)
+    let n = or_if(PASSES, links % LINK_WORDS != 0, SHAPE);
+    let n = or_if(n, rows % ROW_WORDS != 0, SHAPE);
+    let n = or_if(n, links / LINK_WORDS != rows / ROW_WORDS, SHAPE);
+    let n = or_if(n, links / LINK_WORDS == 0, SHAPE);
+    or_if(n, LIMIT < links / LINK_WORDS, SHAPE)
 }
 
 // The header, beside the lent count.
-pub fn header_number(k: u32, lent: usize, header: Header) -> u32
-    ensures { λ r. ⌜ r ≡ headerNumber k lent header ⌝ }
+pub fn header_number(n: u32, lent: usize, header: Header) -> u32
+    ensures { λ r. ⌜ r ≡ headerNumber n lent header ⌝ }
 {
     let used = header.used;
     let most = one_below(used);
-    let k = or_if(k, used == 0, SHAPE);
-    let k = or_if(k, lent < used as usize, SHAPE);
-    or_if(k, most < header.live, SHAPE)
+    let n = or_if(n, used == 0, SHAPE);
+    let n = or_if(n, lent < used as usize, SHAPE);
+    or_if(n, most < header.live, SHAPE)
 }
 
 pub fn shape_number(links: &[u32], rows: &[u32], header: Header) -> u32
     ensures { λ r. ⌜ r ≡ shapeNumber (now (links .entry)) (now (rows .entry)) header ⌝ }
 {
-    let k = lent_number(links.len(), rows.len());
-    header_number(k, links.len() / LINK_WORDS, header)
+    let n = lent_number(links.len(), rows.len());
+    header_number(n, links.len() / LINK_WORDS, header)
 }
 
 // A side buffer's length, beside the one that is asked for.
-pub fn side_number(k: u32, side: usize, n: usize) -> u32
-    ensures { λ r. ⌜ r ≡ sideNumber k side n ⌝ }
+pub fn side_number(n: u32, side: usize, asked: usize) -> u32
+    ensures { λ r. ⌜ r ≡ sideNumber n side asked ⌝ }
 {
-    or_if(k, side != n, SHAPE)
+    or_if(n, side != asked, SHAPE)
 }
 
-pub fn zero_number(k: u32, links: &[u32], header: Header) -> u32
-    ensures { λ r. ⌜ r ≡ zeroNumber k (now (links .entry)) header ⌝ }
+pub fn zero_number(n: u32, links: &[u32], header: Header) -> u32
+    ensures { λ r. ⌜ r ≡ zeroNumber n (now (links .entry)) header ⌝ }
 {
-    or_if(k, version(links, header.used, 0) % 2 == 1, DAMAGED)
+    or_if(n, version(links, header.used, 0) % 2 == 1, DAMAGED)
 }
 
 pub fn entry_number(links: &[u32], rows: &[u32], header: Header) -> u32
@@ -91,11 +91,17 @@ pub fn entry_number(links: &[u32], rows: &[u32], header: Header) -> u32
     zero_number(shape_number(links, rows, header), links, header)
 }
 
-pub fn side_entry_number(links: &[u32], rows: &[u32], header: Header, side: usize, n: usize) -> u32
-    ensures { λ r. ⌜ r ≡ sideEntryNumber (now (links .entry)) (now (rows .entry)) header side n ⌝ }
+pub fn side_entry_number(
+    links: &[u32],
+    rows: &[u32],
+    header: Header,
+    side: usize,
+    asked: usize,
+) -> u32
+    ensures { λ r. ⌜ r ≡ sideEntryNumber (now (links .entry)) (now (rows .entry)) header side asked ⌝ }
 {
     zero_number(
-        side_number(shape_number(links, rows, header), side, n),
+        side_number(shape_number(links, rows, header), side, asked),
         links,
         header,
     )
@@ -106,18 +112,18 @@ pub fn live_key(links: &[u32], header: Header, key: Key) -> bool
 {
     let used = header.used;
     let index = key.index;
-    let held = and(
+    let held = both(
         key.version % 2 == 1,
         version(links, used, index) == key.version,
     );
-    and(index < used, held)
+    both(index < used, held)
 }
 
-pub fn live_number(k: u32, links: &[u32], header: Header, key: Key) -> u32
-    ensures { λ r. ⌜ r ≡ liveNumber k (now (links .entry)) header key ⌝ }
+pub fn live_number(n: u32, links: &[u32], header: Header, key: Key) -> u32
+    ensures { λ r. ⌜ r ≡ liveNumber n (now (links .entry)) header key ⌝ }
 {
-    let k = or_if(k, key.version % 2 == 0, EVEN_VERSION);
-    or_if(k, !live_key(links, header, key), NOT_LIVE)
+    let n = or_if(n, key.version % 2 == 0, EVEN_VERSION);
+    or_if(n, !live_key(links, header, key), NOT_LIVE)
 }
 
 // Key number: 0 for a live key, else the number that it is turned down with.

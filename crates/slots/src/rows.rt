@@ -5,7 +5,7 @@ use rules::ROW_WORDS;
 use rules::Row;
 
 // Row i becomes the side buffer.
-pub fn put_row(rows: &mut [u32], i: u32, side: &[u32])
+pub fn set_row(rows: &mut [u32], i: u32, side: &[u32])
     ensures { λ _. ⌜ now (rows .exit) ≡ setRow (now (rows .entry)) i (now (side .entry)) ⌝ }
 {
     let at = i as usize * ROW_WORDS;
@@ -27,7 +27,7 @@ pub fn clear_row(rows: &mut [u32], i: u32)
     ensures { λ _. ⌜ now (rows .exit) ≡ setRow (now (rows .entry)) i zeroRow ⌝ }
 {
     let zeros = [0u32; ROW_WORDS];
-    put_row(rows, i, &zeros);
+    set_row(rows, i, &zeros);
 }
 
 // Row i by value.
@@ -43,6 +43,6 @@ pub fn row(rows: &[u32], used: u32, i: u32) -> Row
     if rows.len() < end {
         return words;
     }
-    put_row(&mut words, 0, &rows[at..end]);
+    set_row(&mut words, 0, &rows[at..end]);
     words
 }

@@ -7,13 +7,13 @@ use rules::Header;
 use rules::LINK_WORDS;
 use rules::Numbered;
 use rules::Roomed;
-use slots::headers::fresh_header;
+use slots::headers::fresh;
 use slots::refusals::entry_number;
 use slots::refusals::lent_number;
 use slots::rows::clear_row;
 use slots::words::new_slot;
 
-// Makes an empty map of what is lent. The old header is looked at by nobody: it comes back if the call is refused.
+// Makes an empty map of what is lent. The old header is not looked at: it comes back if the call is refused.
 pub fn start(links: &mut [u32], rows: &mut [u32], header: Header) -> Numbered
     ensures { λ r. ⌜ numbered r (now (links .exit)) (now (rows .exit)) ≡ startRule (now (links .entry)) (now (rows .entry)) header ⌝ }
 {
@@ -25,7 +25,7 @@ pub fn start(links: &mut [u32], rows: &mut [u32], header: Header) -> Numbered
     clear_row(rows, 0);
     Numbered {
         number: 0,
-        header: fresh_header(),
+        header: fresh(),
     }
 }
 

@@ -18,8 +18,8 @@ new-slot-requires c κs = search needs
 clear-row-requires : tie.Need-clear-row-requires
 clear-row-requires c κs = search needs
 
-fresh-header-requires : tie.Need-fresh-header-requires
-fresh-header-requires c κs = search needs
+fresh-requires : tie.Need-fresh-requires
+fresh-requires c κs = search needs
 
 same-length : tie.Need-same-length
 same-length c = search needs
@@ -31,7 +31,7 @@ returns-2 : tie.Need-returns-2
 unfolding startRule
 returns-2 c =
     done-by _ _ _ _ _ (c .before .before .before .before .before .before .before .before .before .before .lent-number .ensures) _ (c .before .before .before .before .before .before .before .before .before .if1 .left) _
-    (rw (c .fresh-header .ensures, c .before .before .before .clear-row .ensures, c .before .before .before .before .before .before .before .new-slot .ensures))
+    (rw (c .fresh .ensures, c .before .before .before .clear-row .ensures, c .before .before .before .before .before .before .before .new-slot .ensures))
 
 pub start-spec : {M : Type 1} → statement M
 start-spec =
@@ -41,7 +41,7 @@ start-spec =
     returns
     new-slot-requires
     clear-row-requires
-    fresh-header-requires
+    fresh-requires
     same-length
     same-length-2
     returns-2)

@@ -34,17 +34,17 @@ mul-at c = search needs
 add-end : tie.Need-add-end
 add-end c = search needs
 
-mul-put-row : tie.Need-mul-put-row
-mul-put-row c = search needs
+mul-set-row : tie.Need-mul-set-row
+mul-set-row c = search needs
 
-sub-put-row : tie.Need-sub-put-row
-sub-put-row c = search needs
+sub-set-row : tie.Need-sub-set-row
+sub-set-row c = search needs
 
-part-put-row-start : tie.Need-part-put-row-start
-part-put-row-start c = search needs
+part-set-row-start : tie.Need-part-set-row-start
+part-set-row-start c = search needs
 
-put-row-requires : tie.Need-put-row-requires
-put-row-requires c κs = search needs
+set-row-requires : tie.Need-set-row-requires
+set-row-requires c κs = search needs
 
 same-length-2 : tie.Need-same-length-2
 same-length-2 c = search needs
@@ -54,8 +54,8 @@ fits : (c : tie.Else1) →
     (c .before .before .before .before .before .before .before .args .key .index * rowWords + rowWords ≤ length (now (c .before .before .before .before .before .before .before .args .rows))) × (length (now (c .before .before .before .before .before .before .before .args .side)) ≡ rowWords)
 fits c = replace-within _ _ _ _ _ (sym (c .before .replace-number .ensures) ∙ c .if1 .left)
 
-part-put-row-end : tie.Need-part-put-row-end
-part-put-row-end c = omega (arith, fits c .0)
+part-set-row-end : tie.Need-part-set-row-end
+part-set-row-end c = omega (arith, fits c .0)
 
 returns-2 : tie.Need-returns-2
 unfolding replaceRule
@@ -63,7 +63,7 @@ returns-2 c =
     let a = c .before .before .before .before .before .before .before .before .before .before .before .args in
     let w = fits (c .before .before .before .before) in
     done-by _ _ _ _ _ (c .before .before .before .before .before .replace-number .ensures) _ (c .before .before .before .before .if1 .left) _
-    (rw (c .before .before .put-row .ensures)
+    (rw (c .before .before .set-row .ensures)
     (ap (λ (r : List ℕ). plain done (a .header) (now (a .links)) r)
     (lent-on (now (a .rows)) (now (a .side)) (a .key .index) (w .1) (w .0))))
 
@@ -77,10 +77,10 @@ replace-spec =
     returns
     mul-at
     add-end
-    mul-put-row
-    sub-put-row
-    part-put-row-start
-    part-put-row-end
-    put-row-requires
+    mul-set-row
+    sub-set-row
+    part-set-row-start
+    part-set-row-end
+    set-row-requires
     same-length-2
     returns-2)

@@ -7,15 +7,15 @@ use Rattle.slots.proofs.refusals.live_key.Tie as tie
 version-requires : tie.Need-version-requires
 version-requires c κs = search needs
 
-and-requires : tie.Need-and-requires
-and-requires c κs = search needs
+both-requires : tie.Need-both-requires
+both-requires c κs = search needs
 
-and-requires-2 : tie.Need-and-requires-2
-and-requires-2 c κs = search needs
+both-requires-2 : tie.Need-both-requires-2
+both-requires-2 c κs = search needs
 
 returns : tie.Need-returns
 unfolding liveKey
 returns c = cc
 
 pub live-key-spec : {M : Type 1} → statement M
-live-key-spec = tie.close (tie.spec version-requires and-requires and-requires-2 returns)
+live-key-spec = tie.close (tie.spec version-requires both-requires both-requires-2 returns)

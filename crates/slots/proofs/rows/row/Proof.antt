@@ -1,21 +1,17 @@
 -- `slots::rows::row` meets its contract. Assumes nothing.
 use Rattle.rules.specs.Words.{rowWords, setRow, rowAt, zeroRow}
 use native.Mathlib.Nat.{add-sub-cancel-left}
+use Rattle.rules.proofs.Rows.{set-whole-row}
 use native.Mathlib.Omega.{arith}
 use lib.Seq.{take-all}
 use lib.ListN.{length, length-take, length-drop}
 use mathlib.Core.List.{List, append-nil}
-use mathlib.Core.Path.{_≡_, _∙_}
+use mathlib.Core.Path.{refl, _∙_}
 use Prim.Native.Nat.{ℕ}
 use borrow.Author.Tests.{lt-ltb, le-ltb, le-leb, lt-leb, eq-eqb}
 use borrow.Author.Needs.{needs}
 use Rattle.slots.proofs.rows.row.Statement.{statement}
 use Rattle.slots.proofs.rows.row.Tie as tie
-
--- a row put over a row of zeros is that row
-whole : (s : List ℕ) → length s ≡ rowWords → setRow zeroRow 0 s ≡ s
-unfolding setRow
-whole s e = simp (eq-eqb _ _ e, append-nil) (take-all rowWords s (omega arith))
 
 returns : tie.Need-returns
 unfolding rowAt
@@ -31,23 +27,23 @@ returns-2 : tie.Need-returns-2
 unfolding rowAt
 returns-2 c = simp (lt-ltb _ _ (c .before .if1 .left), lt-leb _ _ (c .if2 .taken))
 
-slice-aggregate-put-row : tie.Need-slice-aggregate-put-row
-slice-aggregate-put-row c = search needs
+slice-aggregate-set-row : tie.Need-slice-aggregate-set-row
+slice-aggregate-set-row c = search needs
 
-mul-put-row : tie.Need-mul-put-row
-mul-put-row c = search needs
+mul-set-row : tie.Need-mul-set-row
+mul-set-row c = search needs
 
-sub-put-row : tie.Need-sub-put-row
-sub-put-row c = search needs
+sub-set-row : tie.Need-sub-set-row
+sub-set-row c = search needs
 
-part-put-row-start : tie.Need-part-put-row-start
-part-put-row-start c = search needs
+part-set-row-start : tie.Need-part-set-row-start
+part-set-row-start c = search needs
 
-part-put-row-end : tie.Need-part-put-row-end
-part-put-row-end c = search needs
+part-set-row-end : tie.Need-part-set-row-end
+part-set-row-end c = search needs
 
-put-row-requires : tie.Need-put-row-requires
-put-row-requires c κs = search needs
+set-row-requires : tie.Need-set-row-requires
+set-row-requires c κs = search needs
 
 returns-3 : tie.Need-returns-3
 unfolding rowAt
@@ -56,7 +52,7 @@ returns-3 c =
       lt-ltb _ _ (c .before .before .before .before .before .if1 .left),
       le-leb _ _ (c .before .before .before .before .if2 .left),
     )
-    (c .before .put-row .ensures ∙ simp add-sub-cancel-left (whole _ (simp (length-take, length-drop) (omega arith))))
+    (c .before .set-row .ensures ∙ simp add-sub-cancel-left (set-whole-row zeroRow _ (simp (length-take, length-drop) (omega arith)) refl))
 
 pub row-spec : {M : Type 1} → statement M
 row-spec =
@@ -66,10 +62,10 @@ row-spec =
     mul-at
     add-end
     returns-2
-    slice-aggregate-put-row
-    mul-put-row
-    sub-put-row
-    part-put-row-start
-    part-put-row-end
-    put-row-requires
+    slice-aggregate-set-row
+    mul-set-row
+    sub-set-row
+    part-set-row-start
+    part-set-row-end
+    set-row-requires
     returns-3)

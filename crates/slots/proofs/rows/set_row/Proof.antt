@@ -1,4 +1,4 @@
--- `slots::rows::put_row` meets its contract. Assumes nothing.
+-- `slots::rows::set_row` meets its contract. Assumes nothing.
 use Rattle.rules.specs.Words.{rowWords, setRow}
 use lib.Seq.{paste, paste-zero, paste-suc}
 use lib.ListN.{length, length-set}
@@ -9,8 +9,8 @@ use denote.Ref.{now}
 use mathlib.Core.Path.{_≡_, refl}
 use native.Mathlib.Omega.{arith}
 use borrow.Author.Tests.{eq-eqb, ne-eqb, le-leb, lt-leb}
-use Rattle.slots.proofs.rows.put_row.Statement.{statement}
-use Rattle.slots.proofs.rows.put_row.Tie as tie
+use Rattle.slots.proofs.rows.set_row.Statement.{statement}
+use Rattle.slots.proofs.rows.set_row.Tie as tie
 
 abbrev Inv-loop : tie.InvT-loop
 Inv-loop rows₀ i side at k₀ rows k = (k ≤ rowWords) × (length rows ≡ length rows₀) × (rows ≡ paste rows₀ (i * rowWords) side k)
@@ -74,8 +74,8 @@ returns-3 c =
     let k8 : c .before .loop .k ≡ rowWords = omega arith in
     simp (eq-eqb _ _ (c .before .before .before .if1 .left), le-leb _ _ (c .before .before .if2 .left)) (rw k8 at (c .before .loop .inv .2))
 
-pub put-row-spec : {M : Type 1} → statement M
-put-row-spec =
+pub set-row-spec : {M : Type 1} → statement M
+set-row-spec =
     tie.close
     (tie.spec
     Inv-loop
