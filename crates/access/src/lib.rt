@@ -1,4 +1,5 @@
 // Row access: a look at a live key, to read or to write through, and replace.
+mod place;
 mod reading;
 mod replacing;
 mod writing;

@@ -9,7 +9,7 @@ use native.Mathlib.Omega.{arith}
 use lib.ListN.{length, getD, set, take, drop, length-set}
 use lib.Seq.{getD-take, take-set-lt, take-set-le, take-suc-set, take-all, take-take, take-add, set-out, drop-at, length-take-le, paste, paste-zero, paste-suc}
 use lib.Dec.{ltb, leb, eqb}
-use borrow.Author.Tests.{ltb-true, leb-true, eqb-true, eq-eqb, le-leb}
+use borrow.Author.Tests.{ltb-true, leb-true, eqb-true}
 use Rattle.rules.specs.Choice.{pick, both}
 use Rattle.rules.specs.Words.{linkWords, rowWords, versionWord, nextWord, prevWord, otherEndWord, linkAt, setLink, newSlot, rowWithin, rowAt, setRow, zeroRow}
 use Rattle.rules.specs.NeverRead.{AgreeTo}

@@ -1,25 +1,24 @@
 -- Slots from used upward are never read: the law of specs/NeverRead for each call. Assumes nothing.
-use Prim.Native.Nat.{ℕ, _+_, _-_, _*_, _≤_}
-use mathlib.Core.List.{List, []}
+use Prim.Native.Nat.{ℕ}
+use mathlib.Core.List.{List}
 use mathlib.Core.Bool.{Bool, true, false, not}
-use mathlib.Core.Path.{_≡_, refl, sym, ap, subst, _∙_}
+use mathlib.Core.Path.{_≡_, refl, ap, subst, _∙_}
 use native.Mathlib.Omega.{arith}
 use lib.ListN.{length}
 use lib.Dec.{eqb, ltb}
 use borrow.Author.Tests.{eqb-true}
 use Rattle.rules.specs.Choice.{pick, both}
-use Rattle.rules.specs.Words.{linkWords, rowWords, lentOf, versionAt, versionWord, linkAt, isOdd, isEven, newSlot, setRow, zeroRow, rowAt}
-use Rattle.rules.specs.Headers.{fresh}
-use Rattle.rules.specs.Values.{Outcome, plain, done, counted, refusal, unless}
-use Rattle.rules.specs.Refusals.{_▸_, damaged, evenVersion, notLive, lentNumber, headerNumber, shapeNumber, sideNumber, zeroNumber, liveKey, liveNumber, entryNumber, sideEntryNumber}
+use Rattle.rules.specs.Words.{rowWords, versionAt, versionWord, isOdd, isEven, zeroRow}
+use Rattle.rules.specs.Values.{Outcome, refusal, unless}
+use Rattle.rules.specs.Refusals.{_▸_, damaged, evenVersion, notLive, shapeNumber, sideNumber, zeroNumber, liveKey, liveNumber, entryNumber, sideEntryNumber}
 use Rattle.rules.specs.Start.{startRule, roomRule}
 use Rattle.rules.specs.Access.{keyNumber, lookRule, lookStart, replaceNumber, replaceRule}
-use Rattle.rules.specs.NeverRead.{AgreeTo, AgreeBelow, Alike, NeverReads, AnswersAlike}
+use Rattle.rules.specs.NeverRead.{AgreeBelow, Alike, NeverReads, AnswersAlike}
 use Rattle.rules.specs.declared.Header.{Header}
 use Rattle.rules.specs.declared.Key.{Key}
 use Rattle.rules.proofs.Agree.{same-link, same-row, row-agrees, slot-filled, row-filled}
 use Rattle.rules.proofs.Kept.{slot-kept, row-kept, unless-kept}
-use Rattle.rules.proofs.Shape.{Lent, lent, held}
+use Rattle.rules.proofs.Shape.{lent, held}
 
 -- one number, and one step where it is 0: the rule reads no more than they do
 pub unless-alike : (m : ℕ) (l l′ r r′ : List ℕ) (hd : Header) → AgreeBelow m l l′ r r′ → (n n′ : ℕ) → n ≡ n′ →

@@ -2,7 +2,7 @@
 -- n is the number in the code and m the rule's. Assumes nothing.
 use Prim.Native.Nat.{ℕ}
 use mathlib.Core.List.{List}
-use mathlib.Core.Path.{_≡_, sym, _∙_}
+use mathlib.Core.Path.{_≡_, sym}
 use borrow.Author.Tests.{eq-eqb, ne-eqb}
 use Rattle.rules.specs.Values.{Outcome, plain, refused, numbered, unless}
 use Rattle.rules.specs.declared.Header.{Header}

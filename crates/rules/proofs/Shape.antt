@@ -1,16 +1,14 @@
 -- What the tests of shape, slot 0 and key tell where they passed. Assumes nothing.
-use Prim.Native.Nat.{ℕ, _+_, _-_, _*_, _/_, _%_, _^_, _≤_, _<_}
+use Prim.Native.Nat.{ℕ, _-_, _*_, _/_, _%_, _≤_, _<_}
 use mathlib.Core.List.{List}
-use mathlib.Core.Bool.{Bool, true, false, not}
+use mathlib.Core.Bool.{Bool, true, false}
 use mathlib.Core.Path.{_≡_, refl}
 use native.Mathlib.Omega.{arith}
 use lib.ListN.{length}
-use lib.Dec.{ltb, eqb}
 use borrow.Author.Tests.{eqb-true, eqb-false, ltb-true, ltb-false, not-false}
-use Rattle.rules.specs.Choice.{pick, both}
-use Rattle.rules.specs.Words.{limit, linkWords, rowWords, lentOf, versionAt, isOdd}
-use Rattle.rules.specs.Refusals.{_▸_, shape, damaged, evenVersion, notLive, lentNumber, headerNumber, shapeNumber, sideNumber, zeroNumber, liveKey, liveNumber, entryNumber, sideEntryNumber}
-use Rattle.rules.specs.Access.{keyNumber, replaceNumber}
+use Rattle.rules.specs.Choice.{both}
+use Rattle.rules.specs.Words.{limit, linkWords, rowWords, lentOf}
+use Rattle.rules.specs.Refusals.{lentNumber, headerNumber, shapeNumber, sideNumber, zeroNumber, liveKey, liveNumber, entryNumber, sideEntryNumber}
 use Rattle.rules.specs.declared.Header.{Header}
 use Rattle.rules.specs.declared.Key.{Key}
 use Rattle.rules.proofs.Refusals.{passed}

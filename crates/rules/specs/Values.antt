@@ -1,7 +1,6 @@
 -- Document 01's number and values for each case of each answer, and the whole outcome of a call.
 use Prim.Native.Nat.{ℕ}
 use mathlib.Core.List.{List}
-use mathlib.Core.Bool.{Bool, true, false}
 use lib.Dec.{eqb}
 use Rattle.rules.specs.Choice.{pick}
 use Rattle.rules.specs.Words.{zeroRow}

@@ -1,7 +1,6 @@
 // The chains of refusals, segment by segment, as in rules/specs/Refusals.
 ghost use mathlib.Core.Path.{_≡_};
 ghost use Prim.Native.Nat.{_-_};
-ghost use lib.ListN.{length};
 ghost use Rattle.rules.specs.Choice.{both};
 ghost use Rattle.rules.specs.Refusals.{_▸_, lentNumber, headerNumber, shapeNumber, sideNumber, zeroNumber, liveKey, liveNumber, entryNumber, sideEntryNumber};
 ghost use Rattle.rules.specs.Access.{keyNumber};

@@ -1,17 +1,17 @@
 -- `access::writing::look_mut` meets its contract. Assumes nothing.
-use Rattle.rules.proofs.Access.{part-missed, part-found, live-within}
-use mathlib.Core.Path.{refl, sym, _∙_}
+use Rattle.rules.proofs.Access.{look-within, part-lies}
+use mathlib.Core.Path.{refl}
 use native.Mathlib.Omega.{arith}
-use native.Mathlib.Nat.{add-sub-cancel-left}
+use denote.Ref.{now}
 use borrow.Author.Needs.{needs}
 use Rattle.access.proofs.writing.look_mut.Statement.{statement}
 use Rattle.access.proofs.writing.look_mut.Tie as tie
 
-cast-index : tie.Need-cast-index
-cast-index c = search needs
+row-span-requires : tie.Need-row-span-requires
+row-span-requires c κs = search needs
 
-key-number-requires : tie.Need-key-number-requires
-key-number-requires c κs = search needs
+mul-rows : tie.Need-mul-rows
+mul-rows c = let a = c .before .before .before .before .args in omega (arith, look-within (now (a .links)) (now (a .rows)) (a .header) (a .key))
 
 sub-result : tie.Need-sub-result
 sub-result c = search needs
@@ -20,47 +20,12 @@ part-rows-start : tie.Need-part-rows-start
 part-rows-start c = search needs
 
 part-rows-end : tie.Need-part-rows-end
-part-rows-end c = search needs
+part-rows-end c = let a = c .before .before .before .before .args in omega (arith, look-within (now (a .links)) (now (a .rows)) (a .header) (a .key))
 
 returns : tie.Need-returns
-returns c = part-missed _ _ _ _ _ (λ z. c .before .if1 .taken (c .before .before .key-number .ensures ∙ z)) refl refl
-
-mul-at : tie.Need-mul-at
-mul-at c = search needs
-
-add-end : tie.Need-add-end
-add-end c = search needs
-
-mul-rows : tie.Need-mul-rows
-mul-rows c = search needs
-
-sub-result-2 : tie.Need-sub-result-2
-sub-result-2 c = search needs
-
-part-rows-start-2 : tie.Need-part-rows-start-2
-part-rows-start-2 c = search needs
-
-part-rows-end-2 : tie.Need-part-rows-end-2
-part-rows-end-2 c = omega (arith, live-within _ _ _ _ (sym (c .before .key-number .ensures) ∙ c .if1 .left) .1)
-
-returns-2 : tie.Need-returns-2
-returns-2 c =
-    part-found _ _ _ _ _ (sym (c .before .before .key-number .ensures) ∙ c .before .if1 .left) (simp add-sub-cancel-left) refl
+returns c = part-lies _ _ _ _ _ _ _ (c .before .row-span .ensures .0) (c .before .row-span .ensures .1) refl refl
 
 pub look-mut-spec : {M : Type 1} → statement M
 look-mut-spec =
     tie.close
-    (tie.spec
-    cast-index
-    key-number-requires
-    sub-result
-    part-rows-start
-    part-rows-end
-    returns
-    mul-at
-    add-end
-    mul-rows
-    sub-result-2
-    part-rows-start-2
-    part-rows-end-2
-    returns-2)
+    (tie.spec row-span-requires mul-rows sub-result part-rows-start part-rows-end returns)

@@ -1,14 +1,11 @@
 -- `slots::rows::row` meets its contract. Assumes nothing.
-use Rattle.rules.specs.Words.{rowWords, setRow, rowAt, zeroRow}
+use Rattle.rules.specs.Words.{rowAt, zeroRow}
 use native.Mathlib.Nat.{add-sub-cancel-left}
 use Rattle.rules.proofs.Rows.{set-whole-row}
 use native.Mathlib.Omega.{arith}
-use lib.Seq.{take-all}
-use lib.ListN.{length, length-take, length-drop}
-use mathlib.Core.List.{List, append-nil}
+use lib.ListN.{length-take, length-drop}
 use mathlib.Core.Path.{refl, _∙_}
-use Prim.Native.Nat.{ℕ}
-use borrow.Author.Tests.{lt-ltb, le-ltb, le-leb, lt-leb, eq-eqb}
+use borrow.Author.Tests.{lt-ltb, le-ltb, le-leb, lt-leb}
 use borrow.Author.Needs.{needs}
 use Rattle.slots.proofs.rows.row.Statement.{statement}
 use Rattle.slots.proofs.rows.row.Tie as tie
