@@ -1,4 +1,5 @@
--- The soundness check, which hop.rs does not have: a test of Sound that can be carried out, in passes over the slots below used and one along the chain.
+-- The soundness check, which hop.rs does not have: a test of Sound that can be carried out, in passes over the slots below used
+-- and one along the chain.
 use Prim.Native.Nat.{ℕ, zero, suc}
 use mathlib.Core.List.{List}
 use mathlib.Core.Bool.{Bool, false, not}

@@ -60,9 +60,17 @@ chainSlots n (suc k) c = chainSlot n k (chainSlots n k c)
 abbrev pub closed : Chain → List ℕ
 closed c = setPrev (c .links) 0 (c .last)
 
--- relinking: the versions and n give next, prev and other_end
-unfoldable pub relinked : List ℕ → ℕ → List ℕ
-relinked l n = closed (chainSlots n n (record { links = unlinked n l; front = 0; last = 0 }))
+-- relinking: the versions and n give next, prev, other_end and the live count; used becomes n, live the odd count
+pub record Relinked : Type 0 where
+  pub links : List ℕ
+  pub header : Header
+
+unfoldable pub relinked : List ℕ → ℕ → Relinked
+relinked l n =
+    record {
+      links = closed (chainSlots n n (record { links = unlinked n l; front = 0; last = 0 }));
+      header = rebuilt n (oddCount l n);
+    }
 
 -- clearing: the rows of the vacant slots below k, of n, become zero
 unfoldable pub clearedRows : List ℕ → ℕ → ℕ → List ℕ → List ℕ
@@ -71,9 +79,8 @@ clearedRows l n (suc k) r =
     let rest = clearedRows l n k r in
     pick (vacantAt l n k) (setRow rest k zeroRow) rest
 
--- used becomes n, live the odd count
 abbrev pub rebuildStep : List ℕ → List ℕ → ℕ → Outcome
-rebuildStep l r n = plain done (rebuilt n (oddCount l n)) (relinked l n) (clearedRows l n n r)
+rebuildStep l r n = plain done (relinked l n .header) (relinked l n .links) (clearedRows l n n r)
 
 unfoldable pub rebuildRule : List ℕ → List ℕ → Header → List ℕ → Outcome
 rebuildRule l r hd bytes = unless l r hd (rebuildNumber l r bytes) (rebuildStep l r (length bytes))

@@ -69,7 +69,7 @@ headerNumber n lent hd =
 unfoldable pub shapeNumber : List ℕ → List ℕ → Header → ℕ
 shapeNumber l r hd = headerNumber (lentNumber (length l) (length r)) (lentOf l) hd
 
--- 1: a side buffer of the wrong length, where another is asked for
+-- 1: a side buffer of another length than is asked for
 unfoldable pub sideNumber : ℕ → ℕ → ℕ → ℕ
 sideNumber n side asked = n ▸ (not (eqb side asked), shape)
 

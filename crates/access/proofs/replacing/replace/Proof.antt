@@ -4,9 +4,8 @@ use Rattle.rules.specs.Access.{replaceRule}
 use Rattle.rules.proofs.Outcomes.{numbered-by, done-by}
 use Rattle.rules.proofs.Access.{replace-within}
 use Rattle.access.proofs.Part.{lent-on}
-use mathlib.Core.List.{List}
 use mathlib.Core.Path.{_≡_, sym, ap, _∙_}
-use Prim.Native.Nat.{ℕ, _+_, _*_, _≤_}
+use Prim.Native.Nat.{_+_, _*_, _≤_}
 use lib.ListN.{length}
 use Rattle.rules.specs.Words.{rowWords}
 use native.Mathlib.Omega.{arith}
@@ -60,12 +59,8 @@ part-set-row-end c = omega (arith, fits c .0)
 returns-2 : tie.Need-returns-2
 unfolding replaceRule
 returns-2 c =
-    let a = c .before .before .before .before .before .before .before .before .before .before .before .args in
-    let w = fits (c .before .before .before .before) in
     done-by _ _ _ _ _ (c .before .before .before .before .before .replace-number .ensures) _ (c .before .before .before .before .if1 .left) _
-    (rw (c .before .before .set-row .ensures)
-    (ap (λ (r : List ℕ). plain done (a .header) (now (a .links)) r)
-    (lent-on (now (a .rows)) (now (a .side)) (a .key .index) (w .1) (w .0))))
+    (rw (c .before .before .set-row .ensures) (ap (plain done _ _) (lent-on _ _ _ (fits (c .before .before .before .before) .1) (fits (c .before .before .before .before) .0))))
 
 pub replace-spec : {M : Type 1} → statement M
 replace-spec =
