@@ -59,19 +59,19 @@ takeSlot l r hd side b v =
     plain (keyed (record { index = b; version = v })) (oneMore hd) (setVersion l b v) (setRow r b side)
 
 -- h = b, not 0: next(0) becomes n, prev(n) becomes 0
-unfoldable pub takeLast : List ℕ → InsertLinks → List ℕ
-takeLast l x = setPrev (setNext l 0 (x .n)) (x .n) 0
+unfoldable pub takeLast : List ℕ → ℕ → List ℕ
+takeLast l n = setPrev (setNext l 0 n) n 0
 
 -- otherwise: other_end(b − 1) becomes h and other_end(h) becomes b − 1
-unfoldable pub takeBack : List ℕ → InsertLinks → List ℕ
-takeBack l x = setOtherEnd (setOtherEnd l (x .b - 1) (x .h)) (x .h) (x .b - 1)
+unfoldable pub takeBack : List ℕ → ℕ → ℕ → List ℕ
+takeBack l h b = setOtherEnd (setOtherEnd l (b - 1) h) h (b - 1)
 
 unfoldable pub insertStep : List ℕ → List ℕ → Header → List ℕ → InsertLinks → Outcome
 insertStep l r hd side x =
     pick (eqb (x .b) 0)
     (takeNew l r hd side)
     (takeSlot
-    (pick (eqb (x .h) (x .b)) (takeLast l x) (takeBack l x))
+    (pick (eqb (x .h) (x .b)) (takeLast l (x .n)) (takeBack l (x .h) (x .b)))
     r hd side (x .b) (withBit (versionAt l (hd .used) (x .b))))
 
 unfoldable pub insertBy : List ℕ → List ℕ → Header → List ℕ → InsertLinks → Outcome
