@@ -2,7 +2,7 @@
 -- the same write they agree again, one slot further where the write fills the slot at the edge. Assumes nothing.
 use Prim.Native.Nat.{ℕ, zero, suc, _+_, _*_, _≤_, _<_}
 use mathlib.Core.List.{List, [], _∷_, _++_}
-use mathlib.Core.Bool.{Bool, true, false}
+use mathlib.Core.Bool.{Bool}
 use mathlib.Core.Path.{_≡_, refl, sym, ap, subst, _∙_}
 use native.Mathlib.Decide.{decLt}
 use native.Mathlib.Omega.{arith}
@@ -13,6 +13,7 @@ use borrow.Author.Tests.{ltb-true, leb-true, eqb-true}
 use Rattle.rules.specs.Choice.{pick, both}
 use Rattle.rules.specs.Words.{linkWords, rowWords, versionWord, nextWord, prevWord, otherEndWord, linkAt, setLink, newSlot, rowWithin, rowAt, setRow, zeroRow}
 use Rattle.rules.specs.NeverRead.{AgreeTo}
+use Rattle.rules.proofs.Choice.{by-test, both-true}
 use Rattle.rules.proofs.Rows.{set-row}
 
 by-equal : (n : ℕ) (a a′ b b′ : List ℕ) → a ≡ a′ → b ≡ b′ → AgreeTo n a b → AgreeTo n a′ b′
@@ -71,11 +72,12 @@ module _ (at : ℕ) (s a b : List ℕ) where
 module _ (m : ℕ) (l l′ : List ℕ) (g : AgreeTo (m * linkWords) l l′) where
   pub same-link : (i w : ℕ) → w < linkWords → linkAt l m i w ≡ linkAt l′ m i w
   unfolding linkAt
-  same-link i w h = at (ltb i m) (ltb-true i m)
-    where
-      at : (t : Bool) → (t ≡ true → i < m) → pick t (getD l (i * linkWords + w) 0) 0 ≡ pick t (getD l′ (i * linkWords + w) 0) 0
-      at true k = let j : i < m = k refl in same-word (m * linkWords) l l′ g (i * linkWords + w) (omega arith)
-      at false k = refl
+  same-link i w h =
+      by-test (λ (t : Bool). pick t (getD l (i * linkWords + w) 0) 0 ≡ pick t (getD l′ (i * linkWords + w) 0) 0) (ltb i m)
+      (λ e.
+      let below = ltb-true i m e in
+      same-word (m * linkWords) l l′ g (i * linkWords + w) (omega arith))
+      (λ _. refl)
 
 word-filled : (n i : ℕ) (a b : List ℕ) → i ≡ n → AgreeTo n a b → (x : ℕ) → AgreeTo (suc n) (set a i x) (set b i x)
 word-filled n i a b e g x = subst (λ (k : ℕ). AgreeTo (suc n) (set a k x) (set b k x)) (sym e) (edge-agrees n a b g x)
@@ -103,32 +105,30 @@ same-part at k n a b g h j =
 pub same-row : (m : ℕ) (r r′ : List ℕ) → AgreeTo (m * rowWords) r r′ → (i : ℕ) → rowAt r m i ≡ rowAt r′ m i
 unfolding rowAt
 same-row m r r′ g i =
-    at (ltb i m) (rowWithin r i) (ltb-true i m) (leb-true _ _)
+    by-test
+    (λ (t : Bool). pick t (take rowWords (drop (i * rowWords) r)) zeroRow ≡ pick t (take rowWords (drop (i * rowWords) r′)) zeroRow)
+    (both (ltb i m) (rowWithin r i))
+    (λ e.
+    let f = both-true _ _ e in
+    let below = ltb-true i m (f .0) in
+    let within = leb-true (i * rowWords + rowWords) (length r) (f .1) in
+    same-part (i * rowWords) rowWords (m * rowWords) r r′ g (omega arith) (omega arith))
+    (λ _. refl)
     ∙ ap (λ (n : ℕ). pick (both (ltb i m) (leb (i * rowWords + rowWords) n)) (take rowWords (drop (i * rowWords) r′)) zeroRow) (g .lengths)
-  where
-    at : (t u : Bool) → (t ≡ true → i < m) → (u ≡ true → i * rowWords + rowWords ≤ length r) →
-        pick (both t u) (take rowWords (drop (i * rowWords) r)) zeroRow ≡ pick (both t u) (take rowWords (drop (i * rowWords) r′)) zeroRow
-    at true true h j =
-        let below : i < m = h refl in
-        let within : i * rowWords + rowWords ≤ length r = j refl in
-        same-part (i * rowWords) rowWords (m * rowWords) r r′ g (omega arith) (omega arith)
-    at true false h j = refl
-    at false u h j = refl
 
 pub row-agrees : (n : ℕ) (r r′ : List ℕ) → AgreeTo n r r′ → (i : ℕ) (s : List ℕ) → AgreeTo n (setRow r i s) (setRow r′ i s)
 unfolding setRow
 row-agrees n r r′ g i s =
     by-equal n _ _ _ _ refl
     (ap (λ (k : ℕ). pick (both (eqb (length s) rowWords) (leb (i * rowWords + rowWords) k)) (paste r′ (i * rowWords) s rowWords) r′) (g .lengths))
-    (at (eqb (length s) rowWords) (rowWithin r i) (eqb-true _ _) (leb-true _ _))
-  where
-    at : (t u : Bool) → (t ≡ true → length s ≡ rowWords) → (u ≡ true → i * rowWords + rowWords ≤ length r) →
-        AgreeTo n (pick (both t u) (paste r (i * rowWords) s rowWords) r) (pick (both t u) (paste r′ (i * rowWords) s rowWords) r′)
-    at true true h j =
-        let whole : length s ≡ rowWords = h refl in
-        paste-agrees (i * rowWords) s r r′ n g rowWords (j refl) (omega arith)
-    at true false h j = g
-    at false u h j = g
+    (by-test
+    (λ (t : Bool). AgreeTo n (pick t (paste r (i * rowWords) s rowWords) r) (pick t (paste r′ (i * rowWords) s rowWords) r′))
+    (both (eqb (length s) rowWords) (rowWithin r i))
+    (λ e.
+    let f = both-true _ _ e in
+    let whole = eqb-true (length s) rowWords (f .0) in
+    paste-agrees (i * rowWords) s r r′ n g rowWords (leb-true _ _ (f .1)) (omega arith))
+    (λ _. g))
 
 pub row-filled : (m : ℕ) (r r′ s : List ℕ) → AgreeTo (m * rowWords) r r′ → length s ≡ rowWords → m * rowWords + rowWords ≤ length r →
     AgreeTo ((m + 1) * rowWords) (setRow r m s) (setRow r′ m s)

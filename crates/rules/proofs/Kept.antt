@@ -1,7 +1,7 @@
 -- What is written below a slot leaves the tables from that slot upward. Assumes nothing.
 use Prim.Native.Nat.{ℕ, _+_, _-_, _*_, _≤_, _<_}
 use mathlib.Core.List.{List}
-use mathlib.Core.Bool.{Bool, true, false}
+use mathlib.Core.Bool.{Bool}
 use mathlib.Core.Path.{_≡_, refl, sym, ap, _∙_}
 use native.Mathlib.Omega.{arith}
 use lib.ListN.{length, drop}
@@ -13,6 +13,7 @@ use Rattle.rules.specs.Words.{linkWords, rowWords, versionWord, nextWord
 use Rattle.rules.specs.Values.{Outcome, refusal, unless}
 use Rattle.rules.specs.NeverRead.{reached, Kept}
 use Rattle.rules.specs.declared.Header.{Header}
+use Rattle.rules.proofs.Choice.{by-test, both-true}
 
 -- a link word; a slot; a row
 pub link-kept : (n : ℕ) (l : List ℕ) (i w x : ℕ) → i * linkWords + w < n → drop n (setLink l i w x) ≡ drop n l
@@ -42,23 +43,21 @@ paste-kept n at k r s h i j =
 
 pub row-kept : (m : ℕ) (r : List ℕ) (i : ℕ) (s : List ℕ) → i < m → drop (m * rowWords) (setRow r i s) ≡ drop (m * rowWords) r
 unfolding setRow
-row-kept m r i s h = at (eqb (length s) rowWords) (rowWithin r i) (eqb-true _ _) (leb-true _ _)
-  where
-    at : (t u : Bool) → (t ≡ true → length s ≡ rowWords) → (u ≡ true → i * rowWords + rowWords ≤ length r) →
-        drop (m * rowWords) (pick (both t u) (paste r (i * rowWords) s rowWords) r) ≡ drop (m * rowWords) r
-    at true true f g =
-        let whole : length s ≡ rowWords = f refl in
-        let within : i * rowWords + rowWords ≤ length r = g refl in
-        paste-kept (m * rowWords) (i * rowWords) rowWords r s (omega arith) (omega arith) (omega arith)
-    at true false f g = refl
-    at false u f g = refl
+row-kept m r i s h =
+    by-test (λ (t : Bool). drop (m * rowWords) (pick t (paste r (i * rowWords) s rowWords) r) ≡ drop (m * rowWords) r)
+    (both (eqb (length s) rowWords) (rowWithin r i))
+    (λ e.
+    let f = both-true _ _ e in
+    let whole = eqb-true (length s) rowWords (f .0) in
+    let within = leb-true (i * rowWords + rowWords) (length r) (f .1) in
+    paste-kept (m * rowWords) (i * rowWords) rowWords r s (omega arith) (omega arith) (omega arith))
+    (λ _. refl)
 
 -- a refusal keeps everything
 pub unless-kept : (m : ℕ) (l r : List ℕ) (hd : Header) (n : ℕ) (o : Outcome) → (n ≡ 0 → Kept (reached m o) l r o) →
     Kept (reached m (unless l r hd n o)) l r (unless l r hd n o)
 unfolding unless
-unless-kept m l r hd n o h = at (eqb n 0) (eqb-true n 0)
-  where
-    at : (t : Bool) → (t ≡ true → n ≡ 0) → Kept (reached m (pick t o (refusal l r hd n))) l r (pick t o (refusal l r hd n))
-    at true f = h (f refl)
-    at false f = record { links = refl; rows = refl }
+unless-kept m l r hd n o h =
+    by-test (λ (t : Bool). Kept (reached m (pick t o (refusal l r hd n))) l r (pick t o (refusal l r hd n))) (eqb n 0)
+    (λ e. h (eqb-true n 0 e))
+    (λ _. record { links = refl; rows = refl })

@@ -1,4 +1,5 @@
 -- Laws of the rules.
+pub mod Choice
 pub mod Refusals
 pub mod Shape
 pub mod Outcomes

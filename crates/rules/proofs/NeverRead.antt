@@ -1,7 +1,7 @@
 -- Slots from used upward are never read: the law of specs/NeverRead for each call. Assumes nothing.
 use Prim.Native.Nat.{ℕ}
 use mathlib.Core.List.{List}
-use mathlib.Core.Bool.{Bool, true, false, not}
+use mathlib.Core.Bool.{Bool, not}
 use mathlib.Core.Path.{_≡_, refl, ap, subst, _∙_}
 use native.Mathlib.Omega.{arith}
 use lib.ListN.{length}
@@ -16,6 +16,7 @@ use Rattle.rules.specs.Access.{keyNumber, lookRule, lookStart, replaceNu
 use Rattle.rules.specs.NeverRead.{AgreeBelow, Alike, NeverReads, AnswersAlike}
 use Rattle.rules.specs.declared.Header.{Header}
 use Rattle.rules.specs.declared.Key.{Key}
+use Rattle.rules.proofs.Choice.{by-test}
 use Rattle.rules.proofs.Agree.{same-link, same-row, row-agrees, slot-filled, row-filled}
 use Rattle.rules.proofs.Kept.{slot-kept, row-kept, unless-kept}
 use Rattle.rules.proofs.Shape.{lent, held}
@@ -25,11 +26,10 @@ pub unless-alike : (m : ℕ) (l l′ r r′ : List ℕ) (hd : Header) → AgreeB
     (o o′ : Outcome) → (n ≡ 0 → Alike m o o′) → Alike m (unless l r hd n o) (unless l′ r′ hd n′ o′)
 unfolding unless
 unless-alike m l l′ r r′ hd g n n′ e o o′ h =
-    subst (λ (k : ℕ). Alike m (pick (eqb n 0) o (refusal l r hd n)) (pick (eqb k 0) o′ (refusal l′ r′ hd k))) e (at (eqb n 0) (eqb-true n 0))
-  where
-    at : (t : Bool) → (t ≡ true → n ≡ 0) → Alike m (pick t o (refusal l r hd n)) (pick t o′ (refusal l′ r′ hd n))
-    at true j = h (j refl)
-    at false j = record { answer = refl; row = refl; header = refl; tables = g }
+    subst (λ (k : ℕ). Alike m (pick (eqb n 0) o (refusal l r hd n)) (pick (eqb k 0) o′ (refusal l′ r′ hd k))) e
+    (by-test (λ (t : Bool). Alike m (pick t o (refusal l r hd n)) (pick t o′ (refusal l′ r′ hd n))) (eqb n 0)
+    (λ z. h (eqb-true n 0 z))
+    (λ _. record { answer = refl; row = refl; header = refl; tables = g }))
 
 -- the tests at a call's entry read slot 0 and the key's slot alone
 module _ (hd : Header) (l l′ r r′ : List ℕ) (g : AgreeBelow (hd .used) l l′ r r′) where

@@ -3,7 +3,7 @@
 -- stay as they were: no promise needs to say it. Assumes nothing.
 use Prim.Native.Nat.{ℕ}
 use mathlib.Core.List.{List}
-use mathlib.Core.Bool.{Bool, true, false}
+use mathlib.Core.Bool.{Bool}
 use mathlib.Core.Path.{_≡_, refl, sym, ap, _∙_}
 use denote.Ref.{RefT}
 use lib.Dec.{eqb}
@@ -27,6 +27,7 @@ use Rattle.rules.specs.declared.Drained.{Drained}
 use Rattle.rules.specs.declared.Cleared.{Cleared}
 use Rattle.rules.specs.declared.Retained.{Retained}
 use Rattle.rules.specs.declared.Roomed.{Roomed}
+use Rattle.rules.proofs.Choice.{by-test}
 
 -- a struct can be read back from the outcome that it stands for beside the tables
 pub record Readable (A : Type 0) (view : A → List ℕ → List ℕ → Outcome) : Type 0 where
@@ -114,11 +115,8 @@ count-back (CountAnswer.Counted n) = refl
 count-back (CountAnswer.Refused n) = refl
 
 number-back : (n : ℕ) → ofNumber n .number ≡ n
-number-back n = go (eqb n 0) (eqb-true n 0)
-  where
-    go : (t : Bool) → (t ≡ true → n ≡ 0) → pick t done (refused n) .number ≡ n
-    go true h = sym (h refl)
-    go false h = refl
+number-back n =
+    by-test (λ (t : Bool). pick t done (refused n) .number ≡ n) (eqb n 0) (λ z. sym (eqb-true n 0 z)) (λ _. refl)
 
 -- start, replace, rebuild, the soundness check
 pub numbered-readable : Readable Numbered numbered

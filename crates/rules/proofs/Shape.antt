@@ -1,16 +1,15 @@
 -- What the tests of shape, slot 0 and key tell where they passed. Assumes nothing.
 use Prim.Native.Nat.{ℕ, _-_, _*_, _/_, _%_, _≤_, _<_}
 use mathlib.Core.List.{List}
-use mathlib.Core.Bool.{Bool, true, false}
-use mathlib.Core.Path.{_≡_, refl}
+use mathlib.Core.Path.{_≡_}
 use native.Mathlib.Omega.{arith}
 use lib.ListN.{length}
 use borrow.Author.Tests.{eqb-true, eqb-false, ltb-true, ltb-false, not-false}
-use Rattle.rules.specs.Choice.{both}
 use Rattle.rules.specs.Words.{limit, linkWords, rowWords, lentOf}
 use Rattle.rules.specs.Refusals.{lentNumber, headerNumber, shapeNumber, sideNumber, zeroNumber, liveKey, liveNumber, entryNumber, sideEntryNumber}
 use Rattle.rules.specs.declared.Header.{Header}
 use Rattle.rules.specs.declared.Key.{Key}
+use Rattle.rules.proofs.Choice.{both-true}
 use Rattle.rules.proofs.Refusals.{passed}
 
 -- a lent count that link table and row table share, from 1 to the limit
@@ -69,10 +68,6 @@ unfolding sideEntryNumber zeroNumber sideNumber
 side-entered l r hd side n e =
     let e₁ = passed _ _ _ (omega arith) (passed _ _ _ (omega arith) e .0) in
     (shaped l r hd (e₁ .0), eqb-true _ _ (not-false _ (e₁ .1)))
-
-both-true : (a b : Bool) → both a b ≡ true → (a ≡ true) × (b ≡ true)
-both-true true b e = (refl, e)
-both-true false b e = absurd (eqb-false 0 1 refl (cc))
 
 -- past the tests of a key its slot is in use
 pub held : (k : ℕ) (l : List ℕ) (hd : Header) (key : Key) → liveNumber k l hd key ≡ 0 →
