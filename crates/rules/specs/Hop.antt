@@ -5,7 +5,7 @@ use mathlib.Core.Bool.{not}
 use lib.Dec.{ltb, leb, eqb}
 use Rattle.rules.specs.Choice.{pick, both, either}
 use Rattle.rules.specs.Words.{otherEndAt, vacantAt, occupiedAt, keyAt}
-use Rattle.rules.specs.Values.{Values, Outcome, plain, visited, done, unless}
+use Rattle.rules.specs.Values.{Values, Outcome, answerUnless, plain, visited, done, unless}
 use Rattle.rules.specs.Refusals.{_▸_, passes, damaged, staleCursor, astray, entryNumber}
 use Rattle.rules.specs.Runs.{pastFront}
 use Rattle.rules.specs.declared.Header.{Header}
@@ -30,10 +30,11 @@ hopAnswer l hd c back =
     (pick (occupiedAt l (hd .used) c) (visit l (hd .used) c)
     (pick (eqb (back + 1) (hd .used)) done (visit l (hd .used) (back + 1))))
 
--- the step in a table of the right shape with slot 0 even
-unfoldable pub hopFrom : List ℕ → List ℕ → Header → ℕ → ℕ → Outcome
-hopFrom l r hd c back = unless l r hd (hopNumber l hd c back) (plain (hopAnswer l hd c back) hd l r)
+-- the answer in a table of the right shape with slot 0 even
+unfoldable pub hopFrom : List ℕ → Header → ℕ → Values
+hopFrom l hd c =
+    let back = otherEndAt l (hd .used) c in
+    answerUnless (hopNumber l hd c back) (hopAnswer l hd c back)
 
 unfoldable pub hopRule : List ℕ → List ℕ → Header → ℕ → Outcome
-hopRule l r hd c =
-    unless l r hd (entryNumber l r hd) (hopFrom l r hd c (otherEndAt l (hd .used) c))
+hopRule l r hd c = unless l r hd (entryNumber l r hd) (plain (hopFrom l hd c) hd l r)

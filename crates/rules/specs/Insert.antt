@@ -10,13 +10,9 @@ use Rattle.rules.specs.Headers.{oneMore, grown}
 use Rattle.rules.specs.Values.{Outcome, plain, keyed, unless}
 use Rattle.rules.specs.Refusals.{_▸_, damaged, full, astray, sideEntryNumber}
 use Rattle.rules.specs.declared.Header.{Header}
+use Rattle.rules.specs.declared.InsertLinks.{InsertLinks}
 
 -- the links that insert follows: h = next(0), b = other_end(h), and n = next(h) where h = b, not 0
-pub record InsertLinks : Type 0 where
-  pub h : ℕ
-  pub b : ℕ
-  pub n : ℕ
-
 abbrev pub insertLinks : List ℕ → ℕ → InsertLinks
 insertLinks l used =
     let h = nextAt l used 0 in

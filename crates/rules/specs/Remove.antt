@@ -11,21 +11,16 @@ use Rattle.rules.specs.Refusals.{_▸_, passes, damaged, astray}
 use Rattle.rules.specs.Access.{keyNumber}
 use Rattle.rules.specs.declared.Header.{Header}
 use Rattle.rules.specs.declared.Key.{Key}
+use Rattle.rules.specs.declared.Beside.{Beside}
 
 -- the slots beside slot i, and whether each is vacant: left is i − 1, right is i + 1 if below used
-pub record Beside : Type 0 where
-  pub left : ℕ
-  pub right : ℕ
-  pub leftVacant : Bool
-  pub rightVacant : Bool
-
 abbrev pub beside : List ℕ → ℕ → ℕ → Beside
 beside l used i =
     record {
       left = i - 1;
       right = i + 1;
-      leftVacant = vacantAt l used (i - 1);
-      rightVacant = vacantAt l used (i + 1);
+      before = vacantAt l used (i - 1);
+      after = vacantAt l used (i + 1);
     }
 
 -- live ≥ 1; each of t, f, n, p and e, where the case uses it, below used and vacant; f ≤ i − 1; e ≥ i + 1
@@ -33,13 +28,13 @@ unfoldable pub removeNumber : List ℕ → Header → Beside → ℕ
 removeNumber l hd x =
     passes
     ▸ (eqb (hd .live) 0, damaged)
-    ▸ (both (not (x .leftVacant)) (both (not (x .rightVacant)) (astray l (hd .used) (prevAt l (hd .used) 0))), damaged)
-    ▸ (both (x .leftVacant) (astray l (hd .used) (otherEndAt l (hd .used) (x .left))), damaged)
-    ▸ (both (x .leftVacant) (ltb (x .left) (otherEndAt l (hd .used) (x .left))), damaged)
-    ▸ (both (x .rightVacant) (astray l (hd .used) (nextAt l (hd .used) (x .right))), damaged)
-    ▸ (both (x .rightVacant) (astray l (hd .used) (prevAt l (hd .used) (x .right))), damaged)
-    ▸ (both (x .rightVacant) (astray l (hd .used) (otherEndAt l (hd .used) (x .right))), damaged)
-    ▸ (both (x .rightVacant) (ltb (otherEndAt l (hd .used) (x .right)) (x .right)), damaged)
+    ▸ (both (not (x .before)) (both (not (x .after)) (astray l (hd .used) (prevAt l (hd .used) 0))), damaged)
+    ▸ (both (x .before) (astray l (hd .used) (otherEndAt l (hd .used) (x .left))), damaged)
+    ▸ (both (x .before) (ltb (x .left) (otherEndAt l (hd .used) (x .left))), damaged)
+    ▸ (both (x .after) (astray l (hd .used) (nextAt l (hd .used) (x .right))), damaged)
+    ▸ (both (x .after) (astray l (hd .used) (prevAt l (hd .used) (x .right))), damaged)
+    ▸ (both (x .after) (astray l (hd .used) (otherEndAt l (hd .used) (x .right))), damaged)
+    ▸ (both (x .after) (ltb (otherEndAt l (hd .used) (x .right)) (x .right)), damaged)
 
 -- neither vacant: with t = prev(0), prev(0) and next(t) become i; slot i gets other_end i, next 0, prev t
 unfoldable pub setApart : List ℕ → ℕ → ℕ → List ℕ
@@ -74,9 +69,9 @@ joinBoth l used left right =
 -- the case at hand: in each, all links are read as they stood at the call, then written in the order named
 unfoldable pub freed : List ℕ → ℕ → ℕ → Beside → List ℕ
 freed l used i x =
-    pick (x .leftVacant)
-    (pick (x .rightVacant) (joinBoth l used (x .left) (x .right)) (joinLeft l used i (x .left)))
-    (pick (x .rightVacant) (joinRight l used i (x .right)) (setApart l used i))
+    pick (x .before)
+    (pick (x .after) (joinBoth l used (x .left) (x .right)) (joinLeft l used i (x .left)))
+    (pick (x .after) (joinRight l used i (x .right)) (setApart l used i))
 
 -- the row comes back and becomes zero; the version rises by one; live falls by 1.
 -- No link written is a version, so the version may be written last

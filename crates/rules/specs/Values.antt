@@ -52,6 +52,10 @@ done = record { kind = ends; number = 0; key = zeroKey; cursor = 0; count = 0 }
 abbrev pub refused : ℕ → Values
 refused n = record { kind = refuses; number = n; key = zeroKey; cursor = 0; count = 0 }
 
+-- where the number is 0 the answer, else the refusal's
+abbrev pub answerUnless : ℕ → Values → Values
+answerUnless n v = pick (eqb n 0) v (refused n)
+
 -- the values of each case of each answer
 abbrev pub ofKey : KeyAnswer → Values
 ofKey (KeyAnswer.Keyed k) = keyed k
@@ -77,7 +81,7 @@ ofCount (CountAnswer.Refused n) = refused n
 
 -- a number alone: 0 says that the work is done
 abbrev pub ofNumber : ℕ → Values
-ofNumber n = pick (eqb n 0) done (refused n)
+ofNumber n = answerUnless n done
 
 -- what a call leaves: the answer's values, the row by value (zero where there is none), the header and both tables
 pub record Outcome : Type 0 where
