@@ -12,3 +12,6 @@ by-test P false h j = j refl
 pub both-true : (a b : Bool) → both a b ≡ true → (a ≡ true) × (b ≡ true)
 both-true true b e = (refl, e)
 both-true false b e = absurd (eqb-false 0 1 refl (cc))
+
+pub both-false : (a b : Bool) → both a b ≡ false → a ≡ true → b ≡ false
+both-false a b e h = rw h at e

@@ -2,6 +2,7 @@
 pub mod Choice
 pub mod Refusals
 pub mod Shape
+pub mod Links
 pub mod Outcomes
 pub mod Access
 pub mod Settled
