@@ -10,4 +10,7 @@ pub mod Rows
 pub mod Agree
 pub mod Kept
 pub mod NeverRead
+pub mod HopReads
+pub mod InsertReads
+pub mod RemoveReads
 mod Bench

@@ -53,6 +53,9 @@ occupied l used i e =
 pub followed : (l : List ℕ) (used i : ℕ) → astray l used i ≡ false → Vacant l used i
 followed l used i e = vacant l used i (not-false _ e)
 
+pub vacant-below : (l : List ℕ) (used i : ℕ) → Vacant l used i → i < used
+vacant-below l used i v = v .below
+
 -- insert: the run from h to b
 pub record RunPassed (l : List ℕ) (hd : Header) (x : InsertLinks) : Type 0 where
   pub front : Vacant l (hd .used) (x .h)
