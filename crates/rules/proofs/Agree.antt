@@ -2,7 +2,7 @@
 -- the same write they agree again, one slot further where the write fills the slot at the edge. Assumes nothing.
 use Prim.Native.Nat.{ℕ, zero, suc, _+_, _*_, _≤_, _<_}
 use mathlib.Core.List.{List, [], _∷_, _++_}
-use mathlib.Core.Bool.{Bool}
+use mathlib.Core.Bool.{Bool, true}
 use mathlib.Core.Path.{_≡_, refl, sym, ap, subst, _∙_}
 use native.Mathlib.Decide.{decLt}
 use native.Mathlib.Omega.{arith}
@@ -68,16 +68,21 @@ module _ (at : ℕ) (s a b : List ℕ) where
   paste-edge-agrees g (suc k) h j =
       moved (suc (at + k)) (at + suc k) _ _ (omega arith) (turn (suc (at + k)) k (g .lengths) h j (edge-agrees (at + k) _ _ (paste-edge-agrees g k (omega arith) (omega arith)) (getD s k 0)))
 
--- link words below slot m: read, and slot m filled
+-- link words below slot m: read, written, and slot m filled
 module _ (m : ℕ) (l l′ : List ℕ) (g : AgreeTo (m * linkWords) l l′) where
-  pub same-link : (i w : ℕ) → w < linkWords → linkAt l m i w ≡ linkAt l′ m i w
+  pub same-link : (i w : ℕ) → ltb w linkWords ≡ true → linkAt l m i w ≡ linkAt l′ m i w
   unfolding linkAt
   same-link i w h =
       by-test (λ (t : Bool). pick t (getD l (i * linkWords + w) 0) 0 ≡ pick t (getD l′ (i * linkWords + w) 0) 0) (ltb i m)
       (λ e.
       let below = ltb-true i m e in
+      let within = ltb-true w linkWords h in
       same-word (m * linkWords) l l′ g (i * linkWords + w) (omega arith))
       (λ _. refl)
+
+pub link-agrees : (n : ℕ) (l l′ : List ℕ) → AgreeTo n l l′ → (i w x : ℕ) → AgreeTo n (setLink l i w x) (setLink l′ i w x)
+unfolding setLink
+link-agrees n l l′ g i w x = set-agrees n l l′ g (i * linkWords + w) x
 
 word-filled : (n i : ℕ) (a b : List ℕ) → i ≡ n → AgreeTo n a b → (x : ℕ) → AgreeTo (suc n) (set a i x) (set b i x)
 word-filled n i a b e g x = subst (λ (k : ℕ). AgreeTo (suc n) (set a k x) (set b k x)) (sym e) (edge-agrees n a b g x)

@@ -1,36 +1,33 @@
 -- What is written below a slot leaves the tables from that slot upward. Assumes nothing.
 use Prim.Native.Nat.{ℕ, _+_, _-_, _*_, _≤_, _<_}
 use mathlib.Core.List.{List}
-use mathlib.Core.Bool.{Bool}
+use mathlib.Core.Bool.{Bool, true}
 use mathlib.Core.Path.{_≡_, refl, sym, ap, _∙_}
 use native.Mathlib.Omega.{arith}
 use lib.ListN.{length, drop}
 use lib.Seq.{drop-set-lt, drop-drop, drop-paste, paste}
-use lib.Dec.{eqb}
-use borrow.Author.Tests.{leb-true, eqb-true}
+use lib.Dec.{ltb, eqb}
+use borrow.Author.Tests.{ltb-true, leb-true, eqb-true}
 use Rattle.rules.specs.Choice.{pick, both}
-use Rattle.rules.specs.Words.{linkWords, rowWords, versionWord, nextWord, prevWord, otherEndWord, setLink, setVersion, setNext, setPrev, newSlot, rowWithin, setRow}
+use Rattle.rules.specs.Words.{linkWords, rowWords, setLink, newSlot, rowWithin, setRow}
 use Rattle.rules.specs.Values.{Outcome, refusal, unless}
 use Rattle.rules.specs.NeverRead.{reached, Kept}
 use Rattle.rules.specs.declared.Header.{Header}
 use Rattle.rules.proofs.Choice.{by-test, both-true}
 
 -- a link word; a slot; a row
-pub link-kept : (n : ℕ) (l : List ℕ) (i w x : ℕ) → i * linkWords + w < n → drop n (setLink l i w x) ≡ drop n l
+pub link-kept : (m : ℕ) (l : List ℕ) (i w x : ℕ) → i < m → ltb w linkWords ≡ true →
+    drop (m * linkWords) (setLink l i w x) ≡ drop (m * linkWords) l
 unfolding setLink
-link-kept n l i w x h = drop-set-lt n l (i * linkWords + w) x h
+link-kept m l i w x h j =
+    let within = ltb-true w linkWords j in
+    drop-set-lt (m * linkWords) l (i * linkWords + w) x (omega arith)
 
 pub slot-kept : (l : List ℕ) (i v : ℕ) → drop ((i + 1) * linkWords) (newSlot l i v) ≡ drop ((i + 1) * linkWords) l
 unfolding newSlot
 slot-kept l i v =
-    let n = (i + 1) * linkWords in
-    let l₁ = setVersion l i v in
-    let l₂ = setNext l₁ i 0 in
-    let l₃ = setPrev l₂ i 0 in
-    link-kept n l₃ i otherEndWord 0 (omega arith)
-    ∙ link-kept n l₂ i prevWord 0 (omega arith)
-    ∙ link-kept n l₁ i nextWord 0 (omega arith)
-    ∙ link-kept n l i versionWord v (omega arith)
+    let below : i < i + 1 = omega arith in
+    simp link-kept
 
 paste-kept : (n at k : ℕ) (r s : List ℕ) → at + k ≤ n → at ≤ length r → k ≤ length s → drop n (paste r at s k) ≡ drop n r
 paste-kept n at k r s h i j =

@@ -3,6 +3,7 @@ pub mod Choice
 pub mod Refusals
 pub mod Headers
 pub mod Shape
+pub mod Links
 pub mod Outcomes
 pub mod Access
 pub mod Settled
@@ -10,4 +11,7 @@ pub mod Rows
 pub mod Agree
 pub mod Kept
 pub mod NeverRead
+pub mod HopReads
+pub mod InsertReads
+pub mod RemoveReads
 mod Bench

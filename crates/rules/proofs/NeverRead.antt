@@ -34,7 +34,7 @@ unless-alike m l l′ r r′ hd g n n′ e o o′ h =
 -- the tests at a call's entry read slot 0 and the key's slot alone
 module _ (hd : Header) (l l′ r r′ : List ℕ) (g : AgreeBelow (hd .used) l l′ r r′) where
   same-version : (i : ℕ) → versionAt l (hd .used) i ≡ versionAt l′ (hd .used) i
-  same-version i = same-link (hd .used) l l′ (g .links) i versionWord (omega arith)
+  same-version i = same-link (hd .used) l l′ (g .links) i versionWord refl
 
   same-shape : shapeNumber l r hd ≡ shapeNumber l′ r′ hd
   unfolding shapeNumber

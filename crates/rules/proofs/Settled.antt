@@ -12,6 +12,10 @@ use Rattle.rules.specs.Choice.{pick}
 use Rattle.rules.specs.Values.{Kind, gives, ends, refuses, Values, ofKey, ofHop, ofDrain, ofClear, ofCount, ofNumber, done, refused, Outcome, plain, numbered, inserted, removed, hopped, drained, cleared, retained, roomed}
 use Rattle.rules.specs.Start.{startRule, roomRule}
 use Rattle.rules.specs.Access.{keyNumber, replaceRule, RowPart}
+use Rattle.rules.specs.Insert.{insertRule}
+use Rattle.rules.specs.Remove.{removeRule}
+use Rattle.rules.specs.Hop.{hopRule}
+use Rattle.rules.specs.Drain.{drainRule}
 use Rattle.rules.specs.declared.Header.{Header}
 use Rattle.rules.specs.declared.Key.{Key}
 use Rattle.rules.specs.declared.KeyAnswer.{KeyAnswer}
@@ -175,6 +179,18 @@ room-settled l r hd = settled roomed roomed-readable (roomRule l r hd)
 
 pub replace-settled : (l r : List ℕ) (hd : Header) (k : Key) (side : List ℕ) → OneOutcome numbered (replaceRule l r hd k side)
 replace-settled l r hd k side = settled numbered numbered-readable (replaceRule l r hd k side)
+
+pub insert-settled : (l r : List ℕ) (hd : Header) (side : List ℕ) → OneOutcome inserted (insertRule l r hd side)
+insert-settled l r hd side = settled inserted inserted-readable (insertRule l r hd side)
+
+pub remove-settled : (l r : List ℕ) (hd : Header) (k : Key) → OneOutcome removed (removeRule l r hd k)
+remove-settled l r hd k = settled removed removed-readable (removeRule l r hd k)
+
+pub hop-settled : (l r : List ℕ) (hd : Header) (c : ℕ) → OneOutcome hopped (hopRule l r hd c)
+hop-settled l r hd c = settled hopped hopped-readable (hopRule l r hd c)
+
+pub drain-settled : (l r : List ℕ) (hd : Header) → OneOutcome drained (drainRule l r hd)
+drain-settled l r hd = settled drained drained-readable (drainRule l r hd)
 
 pub key-number-settled : (l r : List ℕ) (hd : Header) (k : Key) (m n : ℕ) → m ≡ keyNumber l r hd k → n ≡ keyNumber l r hd k → m ≡ n
 key-number-settled l r hd k m n p q = p ∙ sym q
