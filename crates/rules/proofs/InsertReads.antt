@@ -9,7 +9,7 @@ use borrow.Author.Tests.{eqb-true, eqb-false}
 use Rattle.rules.specs.Choice.{pick}
 use Rattle.rules.specs.Words.{linkWords, rowWords, vacantAt}
 use Rattle.rules.specs.Refusals.{sideEntryNumber}
-use Rattle.rules.specs.Insert.{insertLinks, runNumber, takeNumber, insertNumber, takeNew, takeSlot, takeLast, takeBack, insertStep, insertBy, insertRule}
+use Rattle.rules.specs.Insert.{insertLinks, runNumber, takeNumber, insertNumber, takeNew, takeSlot, takeLast, takeBack, shortened, insertStep, insertBy, insertRule}
 use Rattle.rules.specs.NeverRead.{AgreeTo, AgreeBelow, Alike, Kept, reached, NeverReads}
 use Rattle.rules.specs.declared.Header.{Header}
 use Rattle.rules.specs.declared.InsertLinks.{InsertLinks}
@@ -28,7 +28,7 @@ same-insert hd side x l l′ r r′ g =
 -- the step past the tests, from the links that were followed
 step-alike : (hd : Header) (side : List ℕ) (x : InsertLinks) (l l′ r r′ : List ℕ) → AgreeBelow (hd .used) l l′ r r′ →
     InsertPassed l r hd side x → Alike (hd .used) (insertStep l r hd side x) (insertStep l′ r′ hd side x)
-unfolding insertStep takeNew takeSlot takeLast takeBack
+unfolding insertStep takeNew takeSlot takeLast takeBack shortened
 step-alike hd side x l l′ r r′ g p =
     by-picks (Alike (hd .used)) (eqb (x .b) 0) _ _ _ _
     (λ b.
@@ -58,7 +58,7 @@ step-alike hd side x l l′ r r′ g p =
 
 step-kept : (hd : Header) (side : List ℕ) (x : InsertLinks) (l r : List ℕ) → InsertPassed l r hd side x →
     Kept (reached (hd .used) (insertStep l r hd side x)) l r (insertStep l r hd side x)
-unfolding insertStep takeNew takeSlot takeLast takeBack
+unfolding insertStep takeNew takeSlot takeLast takeBack shortened
 step-kept hd side x l r p =
     by-pick (λ o. Kept (reached (hd .used) o) l r o) (eqb (x .b) 0) _ _
     (λ _. record { links = slot-kept l (hd .used) 1; rows = row-kept (hd .used + 1) r (hd .used) side (omega arith) })
