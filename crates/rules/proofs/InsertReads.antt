@@ -1,22 +1,21 @@
 -- Insert never reads a slot from used upward, and writes none but the one that it grows into. Assumes nothing.
 use Prim.Native.Nat.{ℕ, _+_, _*_}
 use mathlib.Core.List.{List}
-use mathlib.Core.Path.{_≡_, refl, sym}
+use mathlib.Core.Path.{_≡_, refl}
 use native.Mathlib.Omega.{arith}
-use lib.ListN.{length, drop}
+use lib.ListN.{length}
 use lib.Dec.{eqb}
 use borrow.Author.Tests.{eqb-true, eqb-false}
 use Rattle.rules.specs.Choice.{pick}
 use Rattle.rules.specs.Words.{linkWords, rowWords, vacantAt}
-use Rattle.rules.specs.Refusals.{sideEntryNumber}
-use Rattle.rules.specs.Insert.{insertLinks, runNumber, takeNumber, insertNumber, takeNew, takeSlot, takeLast, takeBack, insertStep, insertBy, insertRule}
-use Rattle.rules.specs.NeverRead.{AgreeTo, AgreeBelow, Alike, Kept, reached, NeverReads}
+use Rattle.rules.specs.Insert.{runNumber, takeNumber, insertNumber, takeNew, takeSlot, takeLast, takeBack, insertStep, insertBy, insertRule}
+use Rattle.rules.specs.NeverRead.{AgreeTo, AgreeBelow, Alike, NeverReads}
 use Rattle.rules.specs.declared.Header.{Header}
 use Rattle.rules.specs.declared.InsertLinks.{InsertLinks}
 use Rattle.rules.proofs.Choice.{by-pick, by-picks}
 use Rattle.rules.proofs.Links.{vacant-below, InsertPassed, insert-passed}
 use Rattle.rules.proofs.Agree.{same-link, link-agrees, slot-filled, row-agrees, row-filled}
-use Rattle.rules.proofs.Kept.{link-kept, slot-kept, row-kept, unless-kept}
+use Rattle.rules.proofs.Kept.{LinksKept, Keeps, link-kept, slot-kept, row-kept, unless-kept}
 use Rattle.rules.proofs.NeverRead.{unless-alike, same-side-entry}
 
 same-insert : (hd : Header) (side : List ℕ) (x : InsertLinks) (l l′ r r′ : List ℕ) → AgreeBelow (hd .used) l l′ r r′ →
@@ -57,28 +56,16 @@ step-alike hd side x l l′ r r′ g p =
     })
 
 step-kept : (hd : Header) (side : List ℕ) (x : InsertLinks) (l r : List ℕ) → InsertPassed l r hd side x →
-    Kept (reached (hd .used) (insertStep l r hd side x)) l r (insertStep l r hd side x)
+    Keeps (hd .used) l r (insertStep l r hd side x)
 unfolding insertStep takeNew takeSlot takeLast takeBack
 step-kept hd side x l r p =
-    by-pick (λ o. Kept (reached (hd .used) o) l r o) (eqb (x .b) 0) _ _
+    by-pick (Keeps (hd .used) l r) (eqb (x .b) 0) _ _
     (λ _. record { links = slot-kept l (hd .used) 1; rows = row-kept (hd .used + 1) r (hd .used) side (omega arith) })
     (λ b.
     let back = p .run .back .below in
-    let some = eqb-false _ _ b in
-    record {
-      links =
-          simp link-kept
-          (by-pick (λ w. drop (hd .used * linkWords) w ≡ drop (hd .used * linkWords) l) (eqb (x .h) (x .b)) _ _
-          (λ e.
-          let next = p .take .next (eqb-true _ _ e) some .below in
-          let head = p .shaped .some in
-          simp link-kept)
-          (λ e.
-          let front = p .run .front .below in
-          let before = p .take .before (eqb-false _ _ e) .below in
-          simp link-kept));
-      rows = row-kept (hd .used) r (x .b) side back;
-    })
+    let run : LinksKept (hd .used) l (pick (eqb (x .h) (x .b)) (takeLast l (x .n)) (takeBack l (x .h) (x .b))) =
+    search (by-pick (LinksKept (hd .used) l), link-kept, vacant-below l, eqb-true, eqb-false, p .take .next, p .take .before) in
+    record { links = simp link-kept run; rows = row-kept (hd .used) r (x .b) side back })
 
 pub insert-never-reads : (hd : Header) (side : List ℕ) → NeverReads (hd .used) (λ l r. insertRule l r hd side)
 unfolding insertRule insertBy
