@@ -3,10 +3,10 @@ ghost use mathlib.Core.Path.{_≡_};
 ghost use Prim.Native.Nat.{_+_};
 ghost use lib.ListN.{length};
 ghost use Rattle.rules.specs.Access.{lookRule, lookStart};
+use refusals::key_number;
 use rules::Header;
 use rules::Key;
 use rules::ROW_WORDS;
-use slots::refusals::key_number;
 
 // Words of the row table: from start up to, and not with, end.
 pub struct Span {

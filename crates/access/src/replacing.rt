@@ -2,12 +2,12 @@
 ghost use mathlib.Core.Path.{_≡_};
 ghost use Rattle.rules.specs.Values.{numbered};
 ghost use Rattle.rules.specs.Access.{replaceNumber, replaceRule};
+use refusals::live_number;
+use refusals::side_entry_number;
 use rules::Header;
 use rules::Key;
 use rules::Numbered;
 use rules::ROW_WORDS;
-use slots::refusals::live_number;
-use slots::refusals::side_entry_number;
 use slots::rows::set_row;
 
 fn replace_number(links: &[u32], rows: &[u32], header: Header, key: Key, side: &[u32]) -> u32

@@ -1,6 +1,7 @@
 -- Laws of the rules.
 pub mod Choice
 pub mod Refusals
+pub mod Headers
 pub mod Shape
 pub mod Links
 pub mod Outcomes

@@ -18,7 +18,7 @@ use Rattle.rules.proofs.Shape.{held}
 use Rattle.rules.proofs.Links.{vacant-below, RemovePassed, remove-passed, drain-passed}
 use Rattle.rules.proofs.Agree.{same-link, link-agrees, same-row, row-agrees}
 use Rattle.rules.proofs.Kept.{LinksKept, Keeps, link-kept, row-kept, unless-kept}
-use Rattle.rules.proofs.NeverRead.{unless-alike, same-entry, same-key}
+use Rattle.rules.proofs.NeverRead.{plain-alike, unless-alike, same-entry, same-key}
 
 -- the links beside the slot
 freed-agrees : (used : ℕ) (l l′ : List ℕ) → AgreeTo (used * linkWords) l l′ → (i : ℕ) (x : Beside) →
@@ -38,9 +38,8 @@ pub removal-alike : (hd : Header) (k : Key) (l l′ r r′ : List ℕ) → Agree
     Alike (hd .used) (removeSlot l r hd k) (removeSlot l′ r′ hd k)
 unfolding removeSlot removeBy removeStep removeNumber vacantAt
 removal-alike hd k l l′ r r′ g =
-    let links = same-link (hd .used) l l′ (g .links) in
-    simp links (
-    unless-alike (hd .used) l l′ r r′ hd g _ _ refl _ _
+    simp (same-link (hd .used) l l′ (g .links))
+    (unless-alike (hd .used) l l′ r r′ hd g _ _ refl _ _
     (λ _.
     record {
       answer = refl;
@@ -81,7 +80,7 @@ drain-never-reads hd =
           unless-alike (hd .used) l l′ r r′ hd g _ _ (same-entry hd l l′ r r′ g) _ _
           (λ _.
           by-picks (Alike (hd .used)) (eqb (hd .live) 0) _ _ _ _
-          (λ _. record { answer = refl; row = refl; header = refl; tables = g })
+          (λ _. plain-alike hd refl g)
           (λ _.
           simp (same-link (hd .used) l l′ (g .links))
           (unless-alike (hd .used) l l′ r r′ hd g _ _ refl _ _ (λ _. removal-alike hd _ l l′ r r′ g))));

@@ -62,13 +62,15 @@ takeLast l n = setPrev (setNext l 0 n) n 0
 unfoldable pub takeBack : List ℕ → ℕ → ℕ → List ℕ
 takeBack l h b = setOtherEnd (setOtherEnd l (b - 1) h) h (b - 1)
 
+-- the run from h to b without b
+unfoldable pub shortened : List ℕ → InsertLinks → List ℕ
+shortened l x = pick (eqb (x .h) (x .b)) (takeLast l (x .n)) (takeBack l (x .h) (x .b))
+
 unfoldable pub insertStep : List ℕ → List ℕ → Header → List ℕ → InsertLinks → Outcome
 insertStep l r hd side x =
     pick (eqb (x .b) 0)
     (takeNew l r hd side)
-    (takeSlot
-    (pick (eqb (x .h) (x .b)) (takeLast l (x .n)) (takeBack l (x .h) (x .b)))
-    r hd side (x .b) (withBit (versionAt l (hd .used) (x .b))))
+    (takeSlot (shortened l x) r hd side (x .b) (withBit (versionAt l (hd .used) (x .b))))
 
 unfoldable pub insertBy : List ℕ → List ℕ → Header → List ℕ → InsertLinks → Outcome
 insertBy l r hd side x = unless l r hd (insertNumber l r hd side x) (insertStep l r hd side x)

@@ -1,10 +1,43 @@
 // The headers that calls hand back are made here and nowhere else.
 ghost use mathlib.Core.Path.{_≡_};
-ghost use Rattle.rules.specs.Headers.{fresh};
+ghost use Rattle.rules.specs.Words.{rise};
+ghost use Rattle.rules.specs.Headers.{fresh, oneLess};
+use crate::choice::one_below;
+use crate::choice::rise;
 use rules::Header;
 
 pub fn fresh() -> Header
     ensures { λ r. ⌜ r ≡ fresh ⌝ }
 {
     Header { used: 1, live: 0 }
+}
+
+// Live grows by 1. It would wrap at the largest number; whoever calls shows that it is below.
+pub fn one_more(header: Header) -> Header
+    ensures { λ r. ⌜ r ≡ record { used = header .used; live = rise (header .live) } ⌝ }
+{
+    Header {
+        used: header.used,
+        live: rise(header.live),
+    }
+}
+
+// Used and live grow by 1, each as live does in one_more.
+pub fn grown(header: Header) -> Header
+    ensures { λ r. ⌜ r ≡ record { used = rise (header .used); live = rise (header .live) } ⌝ }
+{
+    Header {
+        used: rise(header.used),
+        live: rise(header.live),
+    }
+}
+
+// Live falls by 1.
+pub fn one_less(header: Header) -> Header
+    ensures { λ r. ⌜ r ≡ oneLess header ⌝ }
+{
+    Header {
+        used: header.used,
+        live: one_below(header.live),
+    }
 }

@@ -1,6 +1,6 @@
-// The leaves of every call: one word of a slot, one row, one header, one segment of a chain of refusals. Each is total: any index and any
-// length is answered. A read at or past used gives zero and touches nothing; a write past the end changes nothing.
+// The leaves of every call: one word of a slot, one row, one header. Each is total: any index and any length is answered.
+// A read at or past used gives zero and touches nothing; a write past the end changes nothing.
+pub mod choice;
 pub mod headers;
-pub mod refusals;
 pub mod rows;
 pub mod words;

@@ -1,6 +1,7 @@
 // The four link words of a slot, read and written.
 ghost use mathlib.Core.Path.{_≡_};
-ghost use Rattle.rules.specs.Words.{linkAt, setLink, versionAt, nextAt, prevAt, otherEndAt, setVersion, setNext, setPrev, setOtherEnd, newSlot};
+ghost use Rattle.rules.specs.Words.{linkAt, setLink, versionAt, nextAt, prevAt, otherEndAt, setVersion, setNext, setPrev, setOtherEnd, newSlot, vacantAt, occupiedAt};
+use crate::choice::both;
 use rules::LINK_WORDS;
 
 // Where each word of a slot stands.
@@ -89,4 +90,18 @@ pub fn new_slot(links: &mut [u32], i: u32, version: u32)
     set_next(links, i, 0);
     set_prev(links, i, 0);
     set_other_end(links, i, 0);
+}
+
+// Slot i is in use, and vacant.
+pub fn vacant(links: &[u32], used: u32, i: u32) -> bool
+    ensures { λ r. ⌜ r ≡ vacantAt (now (links .entry)) used i ⌝ }
+{
+    both(i < used, version(links, used, i) % 2 == 0)
+}
+
+// Slot i is in use, and occupied.
+pub fn occupied(links: &[u32], used: u32, i: u32) -> bool
+    ensures { λ r. ⌜ r ≡ occupiedAt (now (links .entry)) used i ⌝ }
+{
+    both(i < used, version(links, used, i) % 2 == 1)
 }

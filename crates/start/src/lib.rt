@@ -2,14 +2,14 @@
 ghost use mathlib.Core.Path.{_≡_};
 ghost use Rattle.rules.specs.Values.{numbered, roomed};
 ghost use Rattle.rules.specs.Start.{startRule, roomRule};
+use refusals::entry_number;
+use refusals::lent_number;
 use rules::CountAnswer;
 use rules::Header;
 use rules::LINK_WORDS;
 use rules::Numbered;
 use rules::Roomed;
 use slots::headers::fresh;
-use slots::refusals::entry_number;
-use slots::refusals::lent_number;
 use slots::rows::clear_row;
 use slots::words::new_slot;
 

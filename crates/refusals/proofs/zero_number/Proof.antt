@@ -1,0 +1,18 @@
+-- `refusals::zero_number` meets its contract. Assumes nothing.
+use Rattle.rules.specs.Refusals.{zeroNumber}
+use borrow.Author.Needs.{needs}
+use Rattle.refusals.proofs.zero_number.Statement.{statement}
+use Rattle.refusals.proofs.zero_number.Tie as tie
+
+version-requires : tie.Need-version-requires
+version-requires c κs = search needs
+
+or-if-requires : tie.Need-or-if-requires
+or-if-requires c κs = search needs
+
+returns : tie.Need-returns
+unfolding zeroNumber
+returns c = cc
+
+pub zero-number-spec : {M : Type 1} → statement M
+zero-number-spec = tie.close (tie.spec version-requires or-if-requires returns)
