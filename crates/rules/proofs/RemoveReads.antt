@@ -20,18 +20,18 @@ use Rattle.rules.proofs.Agree.{same-link, link-agrees, same-row, row-ag
 use Rattle.rules.proofs.Kept.{LinksKept, Keeps, link-kept, row-kept, unless-kept}
 use Rattle.rules.proofs.NeverRead.{plain-alike, unless-alike, same-entry, same-key}
 
--- the links beside the slot
+-- the links beside the slot: two choices, then at most six writes
 freed-agrees : (used : ℕ) (l l′ : List ℕ) → AgreeTo (used * linkWords) l l′ → (i : ℕ) (x : Beside) →
     AgreeTo (used * linkWords) (freed l used i x) (freed l′ used i x)
 unfolding freed joinBoth joinLeft joinRight setApart
-freed-agrees used l l′ g i x = simp (same-link used l l′ g) (search (by-picks (AgreeTo (used * linkWords)), link-agrees) depth 12)
+freed-agrees used l l′ g i x = simp (same-link used l l′ g) (search (by-picks (AgreeTo (used * linkWords)), link-agrees) depth 8)
 
 freed-kept : (l : List ℕ) (hd : Header) (i : ℕ) (x : Beside) → i < hd .used → RemovePassed l hd x →
     LinksKept (hd .used) l (freed l (hd .used) i x)
 unfolding freed joinBoth joinLeft joinRight setApart
 freed-kept l hd i x h p =
     let head : 0 < hd .used = omega arith in
-    search (by-pick (LinksKept (hd .used) l), link-kept, vacant-below l, p .front, p .next, p .prev, p .back, p .last) depth 12
+    search (by-pick (LinksKept (hd .used) l), link-kept, vacant-below l, p .front, p .next, p .prev, p .back, p .last)
 
 -- the removal of a slot under its key: alike always, and below used where the slot is
 pub removal-alike : (hd : Header) (k : Key) (l l′ r r′ : List ℕ) → AgreeBelow (hd .used) l l′ r r′ →
