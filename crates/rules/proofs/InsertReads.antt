@@ -18,6 +18,7 @@ use Rattle.rules.proofs.Agree.{same-link, link-agrees, slot-filled, row
 use Rattle.rules.proofs.Kept.{LinksKept, Keeps, link-kept, slot-kept, row-kept, unless-kept}
 use Rattle.rules.proofs.NeverRead.{plain-alike, unless-alike, same-side-entry}
 
+-- the number for given links
 same-insert : (hd : Header) (side : List ℕ) (x : InsertLinks) (l l′ r r′ : List ℕ) → AgreeBelow (hd .used) l l′ r r′ →
     insertNumber l r hd side x ≡ insertNumber l′ r′ hd side x
 unfolding insertNumber takeNumber runNumber vacantAt

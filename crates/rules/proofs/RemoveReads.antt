@@ -33,7 +33,7 @@ freed-kept l hd i x h p =
     let head : 0 < hd .used = omega arith in
     search (by-pick (LinksKept (hd .used) l), link-kept, vacant-below l, p .front, p .next, p .prev, p .back, p .last)
 
--- the removal of a slot under its key: alike always, and below used where the slot is
+-- the removal of a slot under its key: it reads below used, and writes there if the slot is in use
 pub removal-alike : (hd : Header) (k : Key) (l l′ r r′ : List ℕ) → AgreeBelow (hd .used) l l′ r r′ →
     Alike (hd .used) (removeSlot l r hd k) (removeSlot l′ r′ hd k)
 unfolding removeSlot removeBy removeStep removeNumber vacantAt
