@@ -2,7 +2,7 @@
 -- the same write they agree again, one slot further where the write fills the slot at the edge. Assumes nothing.
 use Prim.Native.Nat.{ℕ, zero, suc, _+_, _*_, _≤_, _<_}
 use mathlib.Core.List.{List, [], _∷_, _++_}
-use mathlib.Core.Bool.{Bool, true}
+use mathlib.Core.Bool.{true}
 use mathlib.Core.Path.{_≡_, refl, sym, ap, subst, _∙_}
 use native.Mathlib.Decide.{decLt}
 use native.Mathlib.Omega.{arith}
@@ -13,7 +13,7 @@ use borrow.Author.Tests.{ltb-true, leb-true, eqb-true}
 use Rattle.rules.specs.Choice.{pick, both}
 use Rattle.rules.specs.Words.{linkWords, rowWords, versionWord, nextWord, prevWord, otherEndWord, linkAt, setLink, newSlot, rowWithin, rowAt, setRow, zeroRow}
 use Rattle.rules.specs.NeverRead.{AgreeTo}
-use Rattle.rules.proofs.Choice.{by-test, both-true}
+use Rattle.rules.proofs.Choice.{by-picks, both-true}
 use Rattle.rules.proofs.Rows.{set-row}
 
 by-equal : (n : ℕ) (a a′ b b′ : List ℕ) → a ≡ a′ → b ≡ b′ → AgreeTo n a b → AgreeTo n a′ b′
@@ -73,7 +73,7 @@ module _ (m : ℕ) (l l′ : List ℕ) (g : AgreeTo (m * linkWords) l l′) wher
   pub same-link : (i w : ℕ) → ltb w linkWords ≡ true → linkAt l m i w ≡ linkAt l′ m i w
   unfolding linkAt
   same-link i w h =
-      by-test (λ (t : Bool). pick t (getD l (i * linkWords + w) 0) 0 ≡ pick t (getD l′ (i * linkWords + w) 0) 0) (ltb i m)
+      by-picks _≡_ (ltb i m) _ _ _ _
       (λ e.
       let below = ltb-true i m e in
       let within = ltb-true w linkWords h in
@@ -110,9 +110,7 @@ same-part at k n a b g h j =
 pub same-row : (m : ℕ) (r r′ : List ℕ) → AgreeTo (m * rowWords) r r′ → (i : ℕ) → rowAt r m i ≡ rowAt r′ m i
 unfolding rowAt
 same-row m r r′ g i =
-    by-test
-    (λ (t : Bool). pick t (take rowWords (drop (i * rowWords) r)) zeroRow ≡ pick t (take rowWords (drop (i * rowWords) r′)) zeroRow)
-    (both (ltb i m) (rowWithin r i))
+    by-picks _≡_ (both (ltb i m) (rowWithin r i)) _ _ _ _
     (λ e.
     let f = both-true _ _ e in
     let below = ltb-true i m (f .0) in
@@ -126,9 +124,7 @@ unfolding setRow
 row-agrees n r r′ g i s =
     by-equal n _ _ _ _ refl
     (ap (λ (k : ℕ). pick (both (eqb (length s) rowWords) (leb (i * rowWords + rowWords) k)) (paste r′ (i * rowWords) s rowWords) r′) (g .lengths))
-    (by-test
-    (λ (t : Bool). AgreeTo n (pick t (paste r (i * rowWords) s rowWords) r) (pick t (paste r′ (i * rowWords) s rowWords) r′))
-    (both (eqb (length s) rowWords) (rowWithin r i))
+    (by-picks (AgreeTo n) (both (eqb (length s) rowWords) (rowWithin r i)) _ _ _ _
     (λ e.
     let f = both-true _ _ e in
     let whole = eqb-true (length s) rowWords (f .0) in

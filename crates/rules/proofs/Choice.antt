@@ -9,7 +9,7 @@ pub by-test : (P : Bool → Type 0) (t : Bool) → (t ≡ true → P true) → (
 by-test P true h j = h refl
 by-test P false h j = j refl
 
--- what holds of either choice holds of the one that is made; what ties two choices each ties those that one test makes
+-- the same of a choice, and of two choices by one test
 pub by-pick : {A : Type 0} (P : A → Type 0) (t : Bool) (a b : A) → (t ≡ true → P a) → (t ≡ false → P b) → P (pick t a b)
 by-pick P t a b h j = by-test (λ (u : Bool). P (pick u a b)) t h j
 

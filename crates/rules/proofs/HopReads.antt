@@ -9,7 +9,7 @@ use Rattle.rules.specs.NeverRead.{reach, NeverReads}
 use Rattle.rules.specs.declared.Header.{Header}
 use Rattle.rules.proofs.Agree.{same-link}
 use Rattle.rules.proofs.Kept.{unless-kept}
-use Rattle.rules.proofs.NeverRead.{unless-alike, same-entry}
+use Rattle.rules.proofs.NeverRead.{plain-alike, unless-alike, same-entry}
 
 -- where used stays, the tables are known as far after a refusal as after any answer
 reach-same : (k : Kind) (m : ℕ) → reach k m m ≡ m
@@ -23,12 +23,6 @@ hop-never-reads hd c =
     record {
       alike = λ l l′ r r′ g.
           unless-alike (hd .used) l l′ r r′ hd g _ _ (same-entry hd l l′ r r′ g) _ _
-          (λ _.
-          record {
-            answer = simp (same-link (hd .used) l l′ (g .links));
-            row = refl;
-            header = refl;
-            tables = rw (reach-same _ (hd .used)) g;
-          });
+          (λ _. plain-alike hd (simp (same-link (hd .used) l l′ (g .links))) (rw (reach-same _ (hd .used)) g));
       kept = λ l r. unless-kept (hd .used) l r hd _ _ (λ _. record { links = refl; rows = refl });
     }

@@ -1,29 +1,32 @@
 -- What is written below a slot leaves the tables from that slot upward. Assumes nothing.
 use Prim.Native.Nat.{ℕ, _+_, _-_, _*_, _≤_, _<_}
 use mathlib.Core.List.{List}
-use mathlib.Core.Bool.{Bool, true}
+use mathlib.Core.Bool.{true}
 use mathlib.Core.Path.{_≡_, refl, sym, ap, _∙_}
 use native.Mathlib.Omega.{arith}
 use lib.ListN.{length, drop}
 use lib.Seq.{drop-set-lt, drop-drop, drop-paste, paste}
 use lib.Dec.{ltb, eqb}
 use borrow.Author.Tests.{ltb-true, leb-true, eqb-true}
-use Rattle.rules.specs.Choice.{pick, both}
+use Rattle.rules.specs.Choice.{both}
 use Rattle.rules.specs.Words.{linkWords, rowWords, setLink, newSlot, rowWithin, setRow}
-use Rattle.rules.specs.Values.{Outcome, refusal, unless}
+use Rattle.rules.specs.Values.{Outcome, unless}
 use Rattle.rules.specs.NeverRead.{reached, Kept}
 use Rattle.rules.specs.declared.Header.{Header}
-use Rattle.rules.proofs.Choice.{by-test, both-true}
+use Rattle.rules.proofs.Choice.{by-pick, both-true}
+
+-- l′ is l from slot m upward
+abbrev pub LinksKept : ℕ → List ℕ → List ℕ → Type 0
+LinksKept m l l′ = drop (m * linkWords) l′ ≡ drop (m * linkWords) l
 
 -- a link word; a slot; a row
-pub link-kept : (m : ℕ) (l : List ℕ) (i w x : ℕ) → i < m → ltb w linkWords ≡ true →
-    drop (m * linkWords) (setLink l i w x) ≡ drop (m * linkWords) l
+pub link-kept : (m : ℕ) (l : List ℕ) (i w x : ℕ) → i < m → ltb w linkWords ≡ true → LinksKept m l (setLink l i w x)
 unfolding setLink
 link-kept m l i w x h j =
     let within = ltb-true w linkWords j in
     drop-set-lt (m * linkWords) l (i * linkWords + w) x (omega arith)
 
-pub slot-kept : (l : List ℕ) (i v : ℕ) → drop ((i + 1) * linkWords) (newSlot l i v) ≡ drop ((i + 1) * linkWords) l
+pub slot-kept : (l : List ℕ) (i v : ℕ) → LinksKept (i + 1) l (newSlot l i v)
 unfolding newSlot
 slot-kept l i v =
     let below : i < i + 1 = omega arith in
@@ -41,8 +44,7 @@ paste-kept n at k r s h i j =
 pub row-kept : (m : ℕ) (r : List ℕ) (i : ℕ) (s : List ℕ) → i < m → drop (m * rowWords) (setRow r i s) ≡ drop (m * rowWords) r
 unfolding setRow
 row-kept m r i s h =
-    by-test (λ (t : Bool). drop (m * rowWords) (pick t (paste r (i * rowWords) s rowWords) r) ≡ drop (m * rowWords) r)
-    (both (eqb (length s) rowWords) (rowWithin r i))
+    by-pick (λ (w : List ℕ). drop (m * rowWords) w ≡ drop (m * rowWords) r) (both (eqb (length s) rowWords) (rowWithin r i)) _ _
     (λ e.
     let f = both-true _ _ e in
     let whole = eqb-true (length s) rowWords (f .0) in
@@ -50,11 +52,12 @@ row-kept m r i s h =
     paste-kept (m * rowWords) (i * rowWords) rowWords r s (omega arith) (omega arith) (omega arith))
     (λ _. refl)
 
+-- an outcome that leaves the tables as they were past where they are known
+abbrev pub Keeps : ℕ → List ℕ → List ℕ → Outcome → Type 0
+Keeps m l r o = Kept (reached m o) l r o
+
 -- a refusal keeps everything
-pub unless-kept : (m : ℕ) (l r : List ℕ) (hd : Header) (n : ℕ) (o : Outcome) → (n ≡ 0 → Kept (reached m o) l r o) →
-    Kept (reached m (unless l r hd n o)) l r (unless l r hd n o)
+pub unless-kept : (m : ℕ) (l r : List ℕ) (hd : Header) (n : ℕ) (o : Outcome) → (n ≡ 0 → Keeps m l r o) → Keeps m l r (unless l r hd n o)
 unfolding unless
 unless-kept m l r hd n o h =
-    by-test (λ (t : Bool). Kept (reached m (pick t o (refusal l r hd n))) l r (pick t o (refusal l r hd n))) (eqb n 0)
-    (λ e. h (eqb-true n 0 e))
-    (λ _. record { links = refl; rows = refl })
+    by-pick (Keeps m l r) (eqb n 0) _ _ (λ e. h (eqb-true n 0 e)) (λ _. record { links = refl; rows = refl })

@@ -1,48 +1,50 @@
--- Slots from used upward are never read: the law of specs/NeverRead for each call. Assumes nothing.
+-- Slots from used upward are never read: what the law of specs/NeverRead takes for any call, and the law itself for each call
+-- that follows no link. Assumes nothing.
 use Prim.Native.Nat.{ℕ}
 use mathlib.Core.List.{List}
-use mathlib.Core.Bool.{Bool, not}
-use mathlib.Core.Path.{_≡_, refl, ap, subst, _∙_}
+use mathlib.Core.Path.{_≡_, refl, ap, _∙_}
 use native.Mathlib.Omega.{arith}
 use lib.ListN.{length}
-use lib.Dec.{eqb, ltb}
+use lib.Dec.{eqb}
 use borrow.Author.Tests.{eqb-true}
-use Rattle.rules.specs.Choice.{pick, both}
-use Rattle.rules.specs.Words.{rowWords, versionAt, versionWord, isOdd, isEven, zeroRow}
-use Rattle.rules.specs.Values.{Outcome, refusal, unless}
-use Rattle.rules.specs.Refusals.{_▸_, damaged, evenVersion, notLive, shapeNumber, sideNumber, zeroNumber, liveKey, liveNumber, entryNumber, sideEntryNumber}
+use Rattle.rules.specs.Words.{rowWords, zeroRow}
+use Rattle.rules.specs.Headers.{fresh}
+use Rattle.rules.specs.Values.{Values, Outcome, plain, unless}
+use Rattle.rules.specs.Refusals.{shapeNumber, sideNumber, zeroNumber, liveKey, liveNumber, entryNumber, sideEntryNumber}
 use Rattle.rules.specs.Start.{startRule, roomRule}
 use Rattle.rules.specs.Access.{keyNumber, lookRule, lookStart, replaceNumber, replaceRule}
-use Rattle.rules.specs.NeverRead.{AgreeBelow, Alike, NeverReads, AnswersAlike}
+use Rattle.rules.specs.NeverRead.{AgreeBelow, reach, Alike, NeverReads, AnswersAlike}
 use Rattle.rules.specs.declared.Header.{Header}
 use Rattle.rules.specs.declared.Key.{Key}
-use Rattle.rules.proofs.Choice.{by-test}
+use Rattle.rules.proofs.Choice.{by-picks}
 use Rattle.rules.proofs.Agree.{same-link, same-row, row-agrees, slot-filled, row-filled}
 use Rattle.rules.proofs.Kept.{slot-kept, row-kept, unless-kept}
 use Rattle.rules.proofs.Shape.{lent, held}
+
+-- no row by value: one answer, one header, and tables that agree
+pub plain-alike : {m : ℕ} {v v′ : Values} {l l′ r r′ : List ℕ} (hd : Header) → v ≡ v′ →
+    AgreeBelow (reach (v .kind) m (hd .used)) l l′ r r′ → Alike m (plain v hd l r) (plain v′ hd l′ r′)
+plain-alike hd e g = record { answer = e; row = refl; header = refl; tables = g }
 
 -- one number, and one step where it is 0: the rule reads no more than they do
 pub unless-alike : (m : ℕ) (l l′ r r′ : List ℕ) (hd : Header) → AgreeBelow m l l′ r r′ → (n n′ : ℕ) → n ≡ n′ →
     (o o′ : Outcome) → (n ≡ 0 → Alike m o o′) → Alike m (unless l r hd n o) (unless l′ r′ hd n′ o′)
 unfolding unless
 unless-alike m l l′ r r′ hd g n n′ e o o′ h =
-    subst (λ (k : ℕ). Alike m (pick (eqb n 0) o (refusal l r hd n)) (pick (eqb k 0) o′ (refusal l′ r′ hd k))) e
-    (by-test (λ (t : Bool). Alike m (pick t o (refusal l r hd n)) (pick t o′ (refusal l′ r′ hd n))) (eqb n 0)
+    rw (← e)
+    (by-picks (Alike m) (eqb n 0) _ _ _ _
     (λ z. h (eqb-true n 0 z))
-    (λ _. record { answer = refl; row = refl; header = refl; tables = g }))
+    (λ _. plain-alike hd refl g))
 
 -- the tests at a call's entry read slot 0 and the key's slot alone
 module _ (hd : Header) (l l′ r r′ : List ℕ) (g : AgreeBelow (hd .used) l l′ r r′) where
-  same-version : (i : ℕ) → versionAt l (hd .used) i ≡ versionAt l′ (hd .used) i
-  same-version i = same-link (hd .used) l l′ (g .links) i versionWord refl
-
   same-shape : shapeNumber l r hd ≡ shapeNumber l′ r′ hd
   unfolding shapeNumber
   same-shape = simp (g .links .lengths, g .rows .lengths)
 
   same-zero : (k : ℕ) → zeroNumber k l hd ≡ zeroNumber k l′ hd
   unfolding zeroNumber
-  same-zero k = ap (λ (v : ℕ). k ▸ (isOdd v, damaged)) (same-version 0)
+  same-zero k = simp (same-link (hd .used) l l′ (g .links))
 
   pub same-entry : entryNumber l r hd ≡ entryNumber l′ r′ hd
   unfolding entryNumber
@@ -55,12 +57,7 @@ module _ (hd : Header) (l l′ r r′ : List ℕ) (g : AgreeBelow (hd .used) l l
 
   pub same-live : (k : ℕ) (key : Key) → liveNumber k l hd key ≡ liveNumber k l′ hd key
   unfolding liveNumber liveKey
-  same-live k key =
-      ap
-      (λ (v : ℕ).
-      k ▸ (isEven (key .version), evenVersion)
-      ▸ (not (both (ltb (key .index) (hd .used)) (both (isOdd (key .version)) (eqb v (key .version)))), notLive))
-      (same-version (key .index))
+  same-live k key = simp (same-link (hd .used) l l′ (g .links))
 
   pub same-key : (key : Key) → keyNumber l r hd key ≡ keyNumber l′ r′ hd key
   unfolding keyNumber
@@ -74,15 +71,10 @@ start-never-reads hd =
           unless-alike 0 l l′ r r′ hd g _ _ (simp (g .links .lengths, g .rows .lengths)) _ _
           (λ e.
           let s = lent _ _ e in
+          plain-alike fresh refl
           record {
-            answer = refl;
-            row = refl;
-            header = refl;
-            tables =
-                record {
-                  links = slot-filled 0 l l′ (g .links) 0;
-                  rows = row-filled 0 r r′ zeroRow (g .rows) refl (omega (arith, s .row-words, s .some));
-                };
+            links = slot-filled 0 l l′ (g .links) 0;
+            rows = row-filled 0 r r′ zeroRow (g .rows) refl (omega (arith, s .row-words, s .some));
           });
       kept = λ l r.
           unless-kept 0 l r hd _ _ (λ _. record { links = slot-kept l 0 0; rows = row-kept 1 r 0 zeroRow (omega arith) });
@@ -94,7 +86,7 @@ room-never-reads hd =
     record {
       alike = λ l l′ r r′ g.
           unless-alike (hd .used) l l′ r r′ hd g _ _ (same-entry hd l l′ r r′ g) _ _
-          (λ e. record { answer = simp (g .links .lengths); row = refl; header = refl; tables = g });
+          (λ _. plain-alike hd (simp (g .links .lengths)) g);
       kept = λ l r. unless-kept (hd .used) l r hd _ _ (λ _. record { links = refl; rows = refl });
     }
 
@@ -120,13 +112,7 @@ replace-never-reads hd k side =
       alike = λ l l′ r r′ g.
           unless-alike (hd .used) l l′ r r′ hd g _ _
           (same-live hd l l′ r r′ g _ k ∙ ap (λ (n : ℕ). liveNumber n l′ hd k) (same-side-entry hd l l′ r r′ g (length side) rowWords)) _ _
-          (λ e.
-          record {
-            answer = refl;
-            row = refl;
-            header = refl;
-            tables = record { links = g .links; rows = row-agrees _ r r′ (g .rows) (k .index) side };
-          });
+          (λ _. plain-alike hd refl record { links = g .links; rows = row-agrees _ r r′ (g .rows) (k .index) side });
       kept = λ l r.
           unless-kept (hd .used) l r hd _ _
           (λ e. record { links = refl; rows = row-kept (hd .used) r (k .index) side (held _ l hd k e .1) });

@@ -1,16 +1,15 @@
 -- Remove and the drain step never read a slot from used upward, nor write one. Both come down to the removal of a slot in use.
 -- Assumes nothing.
-use Prim.Native.Nat.{ℕ, _+_, _*_, _<_}
+use Prim.Native.Nat.{ℕ, _*_, _<_}
 use mathlib.Core.List.{List}
-use mathlib.Core.Path.{_≡_, refl, sym}
+use mathlib.Core.Path.{refl}
 use native.Mathlib.Omega.{arith}
-use lib.ListN.{drop}
 use lib.Dec.{eqb}
 use Rattle.rules.specs.Words.{linkWords, zeroRow, vacantAt, occupiedAt}
 use Rattle.rules.specs.Access.{keyNumber}
-use Rattle.rules.specs.Remove.{beside, removeNumber, setApart, joinRight, joinLeft, joinBoth, freed, removeStep, removeBy, removeSlot, removeRule}
+use Rattle.rules.specs.Remove.{removeNumber, setApart, joinRight, joinLeft, joinBoth, freed, removeStep, removeBy, removeSlot, removeRule}
 use Rattle.rules.specs.Drain.{drainNumber, drainSlot, drainRule}
-use Rattle.rules.specs.NeverRead.{AgreeTo, AgreeBelow, Alike, Kept, reached, NeverReads}
+use Rattle.rules.specs.NeverRead.{AgreeTo, AgreeBelow, Alike, NeverReads}
 use Rattle.rules.specs.declared.Header.{Header}
 use Rattle.rules.specs.declared.Key.{Key}
 use Rattle.rules.specs.declared.Beside.{Beside}
@@ -18,31 +17,29 @@ use Rattle.rules.proofs.Choice.{by-pick, by-picks}
 use Rattle.rules.proofs.Shape.{held}
 use Rattle.rules.proofs.Links.{vacant-below, RemovePassed, remove-passed, drain-passed}
 use Rattle.rules.proofs.Agree.{same-link, link-agrees, same-row, row-agrees}
-use Rattle.rules.proofs.Kept.{link-kept, row-kept, unless-kept}
-use Rattle.rules.proofs.NeverRead.{unless-alike, same-entry, same-key}
+use Rattle.rules.proofs.Kept.{LinksKept, Keeps, link-kept, row-kept, unless-kept}
+use Rattle.rules.proofs.NeverRead.{plain-alike, unless-alike, same-entry, same-key}
 
--- the links beside the slot
+-- the links beside the slot: two choices, then at most six writes
 freed-agrees : (used : ℕ) (l l′ : List ℕ) → AgreeTo (used * linkWords) l l′ → (i : ℕ) (x : Beside) →
     AgreeTo (used * linkWords) (freed l used i x) (freed l′ used i x)
 unfolding freed joinBoth joinLeft joinRight setApart
-freed-agrees used l l′ g i x = simp (same-link used l l′ g) (search (by-picks (AgreeTo (used * linkWords)), link-agrees) depth 12)
+freed-agrees used l l′ g i x = simp (same-link used l l′ g) (search (by-picks (AgreeTo (used * linkWords)), link-agrees) depth 8)
 
 freed-kept : (l : List ℕ) (hd : Header) (i : ℕ) (x : Beside) → i < hd .used → RemovePassed l hd x →
-    drop (hd .used * linkWords) (freed l (hd .used) i x) ≡ drop (hd .used * linkWords) l
+    LinksKept (hd .used) l (freed l (hd .used) i x)
 unfolding freed joinBoth joinLeft joinRight setApart
 freed-kept l hd i x h p =
-    let Stays : List ℕ → Type 0 = λ w. drop (hd .used * linkWords) w ≡ drop (hd .used * linkWords) l in
     let head : 0 < hd .used = omega arith in
-    search (by-pick Stays, link-kept, vacant-below l, p .front, p .next, p .prev, p .back, p .last) depth 12
+    search (by-pick (LinksKept (hd .used) l), link-kept, vacant-below l, p .front, p .next, p .prev, p .back, p .last)
 
--- the removal of a slot under its key: alike always, and below used where the slot is
+-- the removal of a slot under its key: it reads below used, and writes there if the slot is in use
 pub removal-alike : (hd : Header) (k : Key) (l l′ r r′ : List ℕ) → AgreeBelow (hd .used) l l′ r r′ →
     Alike (hd .used) (removeSlot l r hd k) (removeSlot l′ r′ hd k)
 unfolding removeSlot removeBy removeStep removeNumber vacantAt
 removal-alike hd k l l′ r r′ g =
-    let links = same-link (hd .used) l l′ (g .links) in
-    simp links (
-    unless-alike (hd .used) l l′ r r′ hd g _ _ refl _ _
+    simp (same-link (hd .used) l l′ (g .links))
+    (unless-alike (hd .used) l l′ r r′ hd g _ _ refl _ _
     (λ _.
     record {
       answer = refl;
@@ -56,7 +53,7 @@ removal-alike hd k l l′ r r′ g =
     }))
 
 pub removal-kept : (hd : Header) (k : Key) (l r : List ℕ) → k .index < hd .used →
-    Kept (reached (hd .used) (removeSlot l r hd k)) l r (removeSlot l r hd k)
+    Keeps (hd .used) l r (removeSlot l r hd k)
 unfolding removeSlot removeBy removeStep
 removal-kept hd k l r h =
     unless-kept (hd .used) l r hd _ _
@@ -83,14 +80,14 @@ drain-never-reads hd =
           unless-alike (hd .used) l l′ r r′ hd g _ _ (same-entry hd l l′ r r′ g) _ _
           (λ _.
           by-picks (Alike (hd .used)) (eqb (hd .live) 0) _ _ _ _
-          (λ _. record { answer = refl; row = refl; header = refl; tables = g })
+          (λ _. plain-alike hd refl g)
           (λ _.
           simp (same-link (hd .used) l l′ (g .links))
           (unless-alike (hd .used) l l′ r r′ hd g _ _ refl _ _ (λ _. removal-alike hd _ l l′ r r′ g))));
       kept = λ l r.
           unless-kept (hd .used) l r hd _ _
           (λ _.
-          by-pick (λ o. Kept (reached (hd .used) o) l r o) (eqb (hd .live) 0) _ _
+          by-pick (Keeps (hd .used) l r) (eqb (hd .live) 0) _ _
           (λ _. record { links = refl; rows = refl })
           (λ _. unless-kept (hd .used) l r hd _ _ (λ e. removal-kept hd _ l r (drain-passed l hd _ e .below))));
     }
