@@ -9,7 +9,7 @@ use Rattle.rules.specs.Refusals.{_▸_, lentNumber, headerNumber, shapeN
 use Rattle.rules.specs.Start.{startRule}
 use Rattle.rules.specs.Access.{keyNumber}
 use Rattle.rules.specs.Insert.{runNumber, takeNumber, insertNumber, takeNew, takeSlot, takeLast, takeBack, shortened, insertStep, insertBy, insertRule}
-use Rattle.rules.specs.Remove.{removeNumber, setApart, joinRight, joinLeft, joinBoth, freed, removeStep, removeBy, removeSlot, removeRule}
+use Rattle.rules.specs.Remove.{apartNumber, leftNumber, rightNumber, removeNumber, setApart, joinRight, joinLeft, joinBoth, freed, removeStep, removeBy, removeSlot, removeRule}
 use Rattle.rules.specs.Runs.{pastFront, isFront, isBack, frontOf}
 use Rattle.rules.specs.Hop.{hopNumber, hopAnswer, hopFrom, hopRule}
 use Rattle.rules.specs.Drain.{drainNumber, drainSlot, drainRule}
@@ -20,5 +20,5 @@ use Rattle.rules.specs.Bench.{replied, wanted}
 use Rattle.rules.specs.Cases.{cases}
 
 bench : map replied cases ≡ map wanted cases
-unfolding allBelow someBelow countBelow linkAt setLink newSlot rowAt setRow vacantAt occupiedAt unless _▸_ lentNumber headerNumber shapeNumber sideNumber zeroNumber liveKey liveNumber entryNumber sideEntryNumber startRule keyNumber runNumber takeNumber insertNumber takeNew takeSlot takeLast takeBack shortened insertStep insertBy insertRule removeNumber setApart joinRight joinLeft joinBoth freed removeStep removeBy removeSlot removeRule pastFront isFront isBack frontOf hopNumber hopAnswer hopFrom hopRule drainNumber drainSlot drainRule endsTest circleTest soundTest soundNumber drainTimes clearRule wrongByte rebuildNumber unlinked chainRun chainSlot chainSlots relinked clearedRows rebuildRule
+unfolding allBelow someBelow countBelow linkAt setLink newSlot rowAt setRow vacantAt occupiedAt unless _▸_ lentNumber headerNumber shapeNumber sideNumber zeroNumber liveKey liveNumber entryNumber sideEntryNumber startRule keyNumber runNumber takeNumber insertNumber takeNew takeSlot takeLast takeBack shortened insertStep insertBy insertRule apartNumber leftNumber rightNumber removeNumber setApart joinRight joinLeft joinBoth freed removeStep removeBy removeSlot removeRule pastFront isFront isBack frontOf hopNumber hopAnswer hopFrom hopRule drainNumber drainSlot drainRule endsTest circleTest soundTest soundNumber drainTimes clearRule wrongByte rebuildNumber unlinked chainRun chainSlot chainSlots relinked clearedRows rebuildRule
 bench = refl

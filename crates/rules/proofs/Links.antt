@@ -12,7 +12,7 @@ use Rattle.rules.specs.Choice.{both}
 use Rattle.rules.specs.Words.{rowWords, lentOf, versionAt, nextAt, prevAt, otherEndAt, vacantAt, occupiedAt}
 use Rattle.rules.specs.Refusals.{astray}
 use Rattle.rules.specs.Insert.{lastSlot, runNumber, takeNumber, insertNumber}
-use Rattle.rules.specs.Remove.{removeNumber}
+use Rattle.rules.specs.Remove.{apartNumber, leftNumber, rightNumber, removeNumber}
 use Rattle.rules.specs.Drain.{drainNumber}
 use Rattle.rules.specs.declared.Header.{Header}
 use Rattle.rules.specs.declared.InsertLinks.{InsertLinks}
@@ -133,7 +133,7 @@ pub record RemovePassed (l : List ℕ) (hd : Header) (x : Beside) : Type 0 where
   pub back-ordered : x .after ≡ true → x .right ≤ otherEndAt l (hd .used) (x .right)
 
 pub remove-passed : (l : List ℕ) (hd : Header) (x : Beside) → removeNumber l hd x ≡ 0 → RemovePassed l hd x
-unfolding removeNumber
+unfolding apartNumber leftNumber rightNumber removeNumber
 remove-passed l hd x e =
     let e₈ = passed _ _ _ (omega arith) e in
     let e₇ = passed _ _ _ (omega arith) (e₈ .0) in

@@ -7,7 +7,7 @@ use native.Mathlib.Omega.{arith}
 use lib.Dec.{eqb}
 use Rattle.rules.specs.Words.{linkWords, zeroRow, vacantAt, occupiedAt}
 use Rattle.rules.specs.Access.{keyNumber}
-use Rattle.rules.specs.Remove.{removeNumber, setApart, joinRight, joinLeft, joinBoth, freed, removeStep, removeBy, removeSlot, removeRule}
+use Rattle.rules.specs.Remove.{apartNumber, leftNumber, rightNumber, removeNumber, setApart, joinRight, joinLeft, joinBoth, freed, removeStep, removeBy, removeSlot, removeRule}
 use Rattle.rules.specs.Drain.{drainNumber, drainSlot, drainRule}
 use Rattle.rules.specs.NeverRead.{AgreeTo, AgreeBelow, Alike, NeverReads}
 use Rattle.rules.specs.declared.Header.{Header}
@@ -36,7 +36,7 @@ freed-kept l hd i x h p =
 -- the removal of a slot under its key: it reads below used, and writes there if the slot is in use
 pub removal-alike : (hd : Header) (k : Key) (l l′ r r′ : List ℕ) → AgreeBelow (hd .used) l l′ r r′ →
     Alike (hd .used) (removeSlot l r hd k) (removeSlot l′ r′ hd k)
-unfolding removeSlot removeBy removeStep removeNumber vacantAt
+unfolding removeSlot removeBy removeStep apartNumber leftNumber rightNumber removeNumber vacantAt
 removal-alike hd k l l′ r r′ g =
     simp (same-link (hd .used) l l′ (g .links))
     (unless-alike (hd .used) l l′ r r′ hd g _ _ refl _ _

@@ -23,18 +23,31 @@ beside l used i =
       after = vacantAt l used (i + 1);
     }
 
--- live ≥ 1; each of t, f, n, p and e, where the case uses it, below used and vacant; f ≤ i − 1; e ≥ i + 1
-unfoldable pub removeNumber : List ℕ → Header → Beside → ℕ
-removeNumber l hd x =
+-- live ≥ 1; where neither is vacant, t below used and vacant
+unfoldable pub apartNumber : List ℕ → Header → Beside → ℕ
+apartNumber l hd x =
     passes
     ▸ (eqb (hd .live) 0, damaged)
     ▸ (both (not (x .before)) (both (not (x .after)) (astray l (hd .used) (prevAt l (hd .used) 0))), damaged)
+
+-- where left is vacant: f below used and vacant, and f ≤ i − 1
+unfoldable pub leftNumber : ℕ → List ℕ → Header → Beside → ℕ
+leftNumber n l hd x =
+    n
     ▸ (both (x .before) (astray l (hd .used) (otherEndAt l (hd .used) (x .left))), damaged)
     ▸ (both (x .before) (ltb (x .left) (otherEndAt l (hd .used) (x .left))), damaged)
+
+-- where right is vacant: n, p and e below used and vacant, and e ≥ i + 1
+unfoldable pub rightNumber : ℕ → List ℕ → Header → Beside → ℕ
+rightNumber n l hd x =
+    n
     ▸ (both (x .after) (astray l (hd .used) (nextAt l (hd .used) (x .right))), damaged)
     ▸ (both (x .after) (astray l (hd .used) (prevAt l (hd .used) (x .right))), damaged)
     ▸ (both (x .after) (astray l (hd .used) (otherEndAt l (hd .used) (x .right))), damaged)
     ▸ (both (x .after) (ltb (otherEndAt l (hd .used) (x .right)) (x .right)), damaged)
+
+unfoldable pub removeNumber : List ℕ → Header → Beside → ℕ
+removeNumber l hd x = rightNumber (leftNumber (apartNumber l hd x) l hd x) l hd x
 
 -- neither vacant: with t = prev(0), prev(0) and next(t) become i; slot i gets other_end i, next 0, prev t
 unfoldable pub setApart : List ℕ → ℕ → ℕ → List ℕ

@@ -1,0 +1,2 @@
+-- What the proofs of remove share.
+mod Beside

@@ -1,0 +1,39 @@
+-- `remove::numbers::left_number` meets its contract. Assumes nothing.
+use Rattle.rules.specs.Remove.{leftNumber}
+use borrow.Author.Needs.{needs}
+use Rattle.remove.proofs.numbers.left_number.Statement.{statement}
+use Rattle.remove.proofs.numbers.left_number.Tie as tie
+
+other-end-requires : tie.Need-other-end-requires
+other-end-requires c κs = search needs
+
+vacant-requires : tie.Need-vacant-requires
+vacant-requires c κs = search needs
+
+both-requires : tie.Need-both-requires
+both-requires c κs = search needs
+
+or-if-requires : tie.Need-or-if-requires
+or-if-requires c κs = search needs
+
+both-requires-2 : tie.Need-both-requires-2
+both-requires-2 c κs = search needs
+
+or-if-requires-2 : tie.Need-or-if-requires-2
+or-if-requires-2 c κs = search needs
+
+returns : tie.Need-returns
+unfolding leftNumber
+returns c = cc
+
+pub left-number-spec : {M : Type 1} → statement M
+left-number-spec =
+    tie.close
+    (tie.spec
+    other-end-requires
+    vacant-requires
+    both-requires
+    or-if-requires
+    both-requires-2
+    or-if-requires-2
+    returns)

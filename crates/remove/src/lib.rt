@@ -1,0 +1,75 @@
+// Remove: first every refusal, by reading alone (numbers); then the slot joins the chain of vacant runs (chain), its version rises
+// and its row goes out. hop.rs 492-556 and 570-578
+mod chain;
+mod numbers;
+
+ghost use mathlib.Core.Path.{_≡_};
+ghost use Rattle.rules.specs.Words.{zeroRow};
+ghost use Rattle.rules.specs.Values.{removed};
+ghost use Rattle.rules.specs.Remove.{removeStep, removeSlot, removeRule};
+use chain::free;
+use numbers::beside;
+use numbers::remove_number;
+use refusals::key_number;
+use rules::Beside;
+use rules::Header;
+use rules::Key;
+use rules::KeyAnswer;
+use rules::ROW_WORDS;
+use rules::Removed;
+use slots::choice::rise;
+use slots::headers::one_less;
+use slots::rows::clear_row;
+use slots::rows::row;
+use slots::words::set_version;
+use slots::words::version;
+
+fn refused(header: Header, number: u32) -> Removed
+    ensures { λ r. ⌜ r ≡ record { answer = KeyAnswer.Refused number; row = zeroRow; header = header } ⌝ }
+{
+    Removed {
+        answer: KeyAnswer::Refused(number),
+        row: [0u32; ROW_WORDS],
+        header,
+    }
+}
+
+fn remove_step(links: &mut [u32], rows: &mut [u32], header: Header, key: Key, x: Beside) -> Removed
+    ensures { λ r. ⌜ removed r (now (links .exit)) (now (rows .exit)) ≡ removeStep (now (links .entry)) (now (rows .entry)) header key x ⌝ }
+{
+    let index = key.index;
+    let used = header.used;
+    let risen = rise(version(links, used, index));
+    free(links, used, index, x);
+    set_version(links, index, risen);
+    let words = row(rows, used, index);
+    clear_row(rows, index);
+    Removed {
+        answer: KeyAnswer::Keyed(key),
+        row: words,
+        header: one_less(header),
+    }
+}
+
+// The removal of an occupied slot that is in use, under its key, in a table of the right shape: what remove and the drain step share.
+pub fn remove_slot(links: &mut [u32], rows: &mut [u32], header: Header, key: Key) -> Removed
+    ensures { λ r. ⌜ removed r (now (links .exit)) (now (rows .exit)) ≡ removeSlot (now (links .entry)) (now (rows .entry)) header key ⌝ }
+{
+    let x = beside(links, header.used, key.index);
+    let number = remove_number(links, header, x);
+    if number != 0 {
+        return refused(header, number);
+    }
+    remove_step(links, rows, header, key, x)
+}
+
+// Takes the row of a live key out and hands it back.
+pub fn remove(links: &mut [u32], rows: &mut [u32], header: Header, key: Key) -> Removed
+    ensures { λ r. ⌜ removed r (now (links .exit)) (now (rows .exit)) ≡ removeRule (now (links .entry)) (now (rows .entry)) header key ⌝ }
+{
+    let number = key_number(links, rows, header, key);
+    if number != 0 {
+        return refused(header, number);
+    }
+    remove_slot(links, rows, header, key)
+}
