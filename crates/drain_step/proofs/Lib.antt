@@ -1,0 +1,2 @@
+-- What the proofs of the drain step share.
+mod Slot
