@@ -17,7 +17,6 @@ use rules::Key;
 use rules::KeyAnswer;
 use rules::ROW_WORDS;
 use rules::Removed;
-use slots::choice::rise;
 use slots::headers::one_less;
 use slots::rows::clear_row;
 use slots::rows::row;
@@ -39,7 +38,7 @@ fn remove_step(links: &mut [u32], rows: &mut [u32], header: Header, key: Key, x:
 {
     let index = key.index;
     let used = header.used;
-    let risen = rise(version(links, used, index));
+    let risen = std::num::wrapping_add_u32(version(links, used, index), 1);
     free(links, used, index, x);
     set_version(links, index, risen);
     let words = row(rows, used, index);

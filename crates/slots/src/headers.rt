@@ -3,7 +3,6 @@ ghost use mathlib.Core.Path.{_≡_};
 ghost use Rattle.rules.specs.Words.{rise};
 ghost use Rattle.rules.specs.Headers.{fresh, oneLess};
 use crate::choice::one_below;
-use crate::choice::rise;
 use rules::Header;
 
 pub fn fresh() -> Header
@@ -18,7 +17,7 @@ pub fn one_more(header: Header) -> Header
 {
     Header {
         used: header.used,
-        live: rise(header.live),
+        live: std::num::wrapping_add_u32(header.live, 1),
     }
 }
 
@@ -27,8 +26,8 @@ pub fn grown(header: Header) -> Header
     ensures { λ r. ⌜ r ≡ record { used = rise (header .used); live = rise (header .live) } ⌝ }
 {
     Header {
-        used: rise(header.used),
-        live: rise(header.live),
+        used: std::num::wrapping_add_u32(header.used, 1),
+        live: std::num::wrapping_add_u32(header.live, 1),
     }
 }
 

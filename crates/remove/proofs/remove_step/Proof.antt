@@ -7,8 +7,8 @@ use Rattle.remove.proofs.remove_step.Tie as tie
 version-requires : tie.Need-version-requires
 version-requires c κs = search needs
 
-rise-requires : tie.Need-rise-requires
-rise-requires c κs = search needs
+wrapping-add-u32-requires : tie.Need-wrapping-add-u32-requires
+wrapping-add-u32-requires c κs = search needs
 
 free-requires : tie.Need-free-requires
 free-requires c κs = search needs
@@ -33,14 +33,14 @@ same-length-2 c = search needs
 
 returns : tie.Need-returns
 unfolding removeStep
-returns c = rw (c .one-less .ensures, c .before .before .before .clear-row .ensures, c .before .before .before .before .before .row .ensures, c .before .before .before .before .before .before .before .before .before .set-version .ensures, c .before .before .before .before .before .before .before .before .before .before .before .before .before .free .ensures, c .before .before .before .before .before .before .before .before .before .before .before .before .before .before .before .rise .ensures, c .before .before .before .before .before .before .before .before .before .before .before .before .before .before .before .before .version .ensures)
+returns c = rw (c .one-less .ensures, c .before .before .before .clear-row .ensures, c .before .before .before .before .before .row .ensures, c .before .before .before .before .before .before .before .before .before .set-version .ensures, c .before .before .before .before .before .before .before .before .before .before .before .before .before .free .ensures, c .before .before .before .before .before .before .before .before .before .before .before .before .before .before .before .wrapping-add-u32 .ensures, c .before .before .before .before .before .before .before .before .before .before .before .before .before .before .before .before .version .ensures)
 
 pub remove-step-spec : {M : Type 1} → statement M
 remove-step-spec =
     tie.close
     (tie.spec
     version-requires
-    rise-requires
+    wrapping-add-u32-requires
     free-requires
     set-version-requires
     row-requires

@@ -3,11 +3,11 @@ use borrow.Author.Needs.{needs}
 use Rattle.slots.proofs.headers.one_more.Statement.{statement}
 use Rattle.slots.proofs.headers.one_more.Tie as tie
 
-rise-requires : tie.Need-rise-requires
-rise-requires c κs = search needs
+wrapping-add-u32-requires : tie.Need-wrapping-add-u32-requires
+wrapping-add-u32-requires c κs = search needs
 
 returns : tie.Need-returns
 returns c = cc
 
 pub one-more-spec : {M : Type 1} → statement M
-one-more-spec = tie.close (tie.spec rise-requires returns)
+one-more-spec = tie.close (tie.spec wrapping-add-u32-requires returns)
