@@ -12,6 +12,7 @@ pub mod Agree
 pub mod Kept
 pub mod NeverRead
 pub mod HopReads
+pub mod HopSteps
 pub mod InsertReads
 pub mod RemoveReads
 mod Bench
