@@ -1,22 +1,19 @@
 -- Where slot i is not in use, i stands in the code for the right neighbour i + 1: neither is vacant, and no rule looks at it.
 -- Assumes nothing.
-use Prim.Native.Nat.{ℕ, _+_, _-_, _≤_}
+use Prim.Native.Nat.{ℕ, _+_, _-_}
 use mathlib.Core.List.{List}
 use mathlib.Core.Bool.{Bool, false}
 use mathlib.Core.Path.{_≡_, refl, sym, _∙_}
 use native.Mathlib.Omega.{arith}
 use lib.Dec.{ltb}
-use borrow.Author.Tests.{le-ltb, ltb-false}
+use borrow.Author.Tests.{ltb-false}
 use Rattle.rules.specs.Choice.{pick}
 use Rattle.rules.specs.Words.{vacantAt}
 use Rattle.rules.specs.Remove.{apartNumber, leftNumber, rightNumber, removeNumber, freed, removeStep, removeBy, removeSlot}
 use Rattle.rules.specs.declared.Header.{Header}
 use Rattle.rules.specs.declared.Key.{Key}
 use Rattle.rules.proofs.Choice.{by-test}
-
-past-used : (l : List ℕ) (used i : ℕ) → used ≤ i → vacantAt l used i ≡ false
-unfolding vacantAt
-past-used l used i h = simp (le-ltb i used h)
+use Rattle.rules.proofs.Links.{past-used}
 
 pub after : (l : List ℕ) (used i : ℕ) → vacantAt l used (pick (ltb i used) (i + 1) i) ≡ vacantAt l used (i + 1)
 after l used i =
@@ -24,7 +21,7 @@ after l used i =
     (λ _. refl)
     (λ e.
     let h = ltb-false i used e in
-    past-used l used i h ∙ sym (past-used l used (i + 1) (omega arith)))
+    past-used l used i h .0 ∙ sym (past-used l used (i + 1) (omega arith) .0))
 
 module _ (l r : List ℕ) (hd : Header) (k : Key) where
   -- with no vacant slot on the right, any number may stand for it
@@ -47,4 +44,4 @@ module _ (l r : List ℕ) (hd : Header) (k : Key) where
       (λ _. refl)
       (λ e.
       let h = ltb-false (k .index) (hd .used) e in
-      rw (past-used l (hd .used) (k .index + 1) (omega arith)) (unseen (k .index - 1) (k .index) (k .index + 1) (vacantAt l (hd .used) (k .index - 1))))
+      rw (past-used l (hd .used) (k .index + 1) (omega arith) .0) (unseen (k .index - 1) (k .index) (k .index + 1) (vacantAt l (hd .used) (k .index - 1))))

@@ -4,6 +4,8 @@ pub mod Refusals
 pub mod Headers
 pub mod Shape
 pub mod Links
+pub mod HopSteps
+pub mod DrainSteps
 pub mod Outcomes
 pub mod Access
 pub mod Settled
@@ -11,7 +13,7 @@ pub mod Rows
 pub mod Agree
 pub mod Kept
 pub mod NeverRead
-pub mod HopReads
 pub mod InsertReads
 pub mod RemoveReads
+pub mod HopReads
 mod Bench

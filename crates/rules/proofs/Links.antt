@@ -7,7 +7,7 @@ use mathlib.Core.Path.{_≡_, ap}
 use native.Mathlib.Omega.{arith}
 use lib.ListN.{length}
 use lib.Dec.{ltb, eqb}
-use borrow.Author.Tests.{eqb-true, eqb-false, ltb-true, ltb-false, not-false, eq-eqb, ne-eqb}
+use borrow.Author.Tests.{eqb-true, eqb-false, ltb-true, ltb-false, not-false, eq-eqb, ne-eqb, lt-ltb, le-ltb}
 use Rattle.rules.specs.Choice.{both}
 use Rattle.rules.specs.Words.{rowWords, lentOf, versionAt, nextAt, prevAt, otherEndAt, vacantAt, occupiedAt}
 use Rattle.rules.specs.Refusals.{astray}
@@ -48,6 +48,26 @@ unfolding occupiedAt
 occupied l used i e =
     let f = in-use i used _ _ e in
     record { test = e; below = f .0; odd = f .1 }
+
+-- a slot in use is one of the two, and one from used upward is neither
+pub else-vacant : (l : List ℕ) (used i : ℕ) → i < used → occupiedAt l used i ≡ false → Vacant l used i
+unfolding vacantAt occupiedAt
+else-vacant l used i h e =
+    let odd : versionAt l used i % 2 ≡ 1 → ⊥ = eqb-false _ _ (both-false _ _ e (lt-ltb _ _ h)) in
+    let even : versionAt l used i % 2 ≡ 0 = omega (arith, odd) in
+    record { test = simp (lt-ltb _ _ h, even); below = h; even = even }
+
+pub not-vacant : (l : List ℕ) (used i : ℕ) → Occupied l used i → vacantAt l used i ≡ false
+unfolding vacantAt
+not-vacant l used i o = simp (lt-ltb _ _ (o .below), o .odd)
+
+pub not-occupied : (l : List ℕ) (used i : ℕ) → Vacant l used i → occupiedAt l used i ≡ false
+unfolding occupiedAt
+not-occupied l used i v = simp (lt-ltb _ _ (v .below), v .even)
+
+pub past-used : (l : List ℕ) (used i : ℕ) → used ≤ i → (vacantAt l used i ≡ false) × (occupiedAt l used i ≡ false)
+unfolding vacantAt occupiedAt
+past-used l used i h = (simp (le-ltb _ _ h), simp (le-ltb _ _ h))
 
 -- a link that did not go astray
 pub followed : (l : List ℕ) (used i : ℕ) → astray l used i ≡ false → Vacant l used i

@@ -1,5 +1,5 @@
 -- `drain_step::drain_slot` meets its contract. Assumes nothing.
-use Rattle.drain_step.proofs.Slot.{not-occupied, occupied}
+use Rattle.rules.proofs.DrainSteps.{refused-slot, removed-slot}
 use mathlib.Core.Path.{sym, _∙_}
 use borrow.Author.Tests.{not-true, not-false}
 use borrow.Author.Needs.{needs}
@@ -16,7 +16,7 @@ same-length : tie.Need-same-length
 same-length c = search needs
 
 returns : tie.Need-returns
-returns c = rw (c .rowless .ensures) (sym (not-occupied _ _ _ _ (sym (c .before .before .occupied .ensures) ∙ not-true (c .before .before .occupied .result) (c .before .if1 .taken))))
+returns c = rw (c .rowless .ensures) (sym (refused-slot _ _ _ _ (sym (c .before .before .occupied .ensures) ∙ not-true (c .before .before .occupied .result) (c .before .if1 .taken))))
 
 version-requires : tie.Need-version-requires
 version-requires c κs = search needs
@@ -34,7 +34,7 @@ same-length-3 : tie.Need-same-length-3
 same-length-3 c = search needs
 
 returns-2 : tie.Need-returns-2
-returns-2 c = rw (c .as-drained .ensures) (c .before .before .before .before .before .before .before .remove-slot .ensures ∙ rw (c .before .before .before .before .before .before .before .before .before .before .version .ensures) (sym (occupied _ _ _ _ (sym (c .before .before .before .before .before .before .before .before .before .before .before .before .before .occupied .ensures) ∙ not-false (c .before .before .before .before .before .before .before .before .before .before .before .before .before .occupied .result) (c .before .before .before .before .before .before .before .before .before .before .before .before .if1 .left)))))
+returns-2 c = rw (c .as-drained .ensures) (c .before .before .before .before .before .before .before .remove-slot .ensures ∙ rw (c .before .before .before .before .before .before .before .before .before .before .version .ensures) (sym (removed-slot _ _ _ _ (sym (c .before .before .before .before .before .before .before .before .before .before .before .before .before .occupied .ensures) ∙ not-false (c .before .before .before .before .before .before .before .before .before .before .before .before .before .occupied .result) (c .before .before .before .before .before .before .before .before .before .before .before .before .if1 .left)))))
 
 pub drain-slot-spec : {M : Type 1} → statement M
 drain-slot-spec =

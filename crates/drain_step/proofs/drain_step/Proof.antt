@@ -1,7 +1,7 @@
 -- `drain_step::drain_step` meets its contract. Assumes nothing.
 use Rattle.rules.specs.Drain.{drainRule}
 use Rattle.rules.proofs.Outcomes.{refused-by, done-by}
-use Rattle.drain_step.proofs.Slot.{not-used}
+use Rattle.rules.proofs.DrainSteps.{refused-past-used}
 use mathlib.Core.Path.{sym}
 use borrow.Author.Tests.{eq-eqb, ne-eqb}
 use native.Mathlib.Omega.{arith}
@@ -52,7 +52,7 @@ same-length-6 c = search needs
 
 returns-3 : tie.Need-returns-3
 unfolding drainRule
-returns-3 c = rw (c .rowless3 .ensures) (done-by _ _ _ _ _ (c .before .before .before .before .before .before .before .before .entry-number .ensures) _ (c .before .before .before .before .before .before .before .if1 .left) _ (simp (ne-eqb _ _ (c .before .before .before .before .before .if2 .left)) (sym (not-used _ _ _ _ (omega (arith, c .before .if3 .taken, c .before .before .before .other-end .ensures))))))
+returns-3 c = rw (c .rowless3 .ensures) (done-by _ _ _ _ _ (c .before .before .before .before .before .before .before .before .entry-number .ensures) _ (c .before .before .before .before .before .before .before .if1 .left) _ (simp (ne-eqb _ _ (c .before .before .before .before .before .if2 .left)) (sym (refused-past-used _ _ _ _ (omega (arith, c .before .if3 .taken, c .before .before .before .other-end .ensures))))))
 
 add-drain-slot : tie.Need-add-drain-slot
 add-drain-slot c = search needs

@@ -1,2 +1,0 @@
--- What the proofs of the drain step share.
-mod Slot
