@@ -6,7 +6,8 @@ ghost use mathlib.Core.Path.{_≡_};
 ghost use Prim.Native.Nat.{_-_, _<_, _^_};
 ghost use Rattle.rules.specs.Words.{withBit};
 ghost use Rattle.rules.specs.Values.{inserted};
-ghost use Rattle.rules.specs.Insert.{takeNew, takeSlot, takeLast, takeBack, shortened, insertStep, insertRule};
+ghost use Rattle.rules.specs.Insert.{takeNew, takeSlot, insertStep, insertRule};
+use chain::shorten;
 use numbers::insert_links;
 use numbers::insert_number;
 use rules::Header;
@@ -14,14 +15,10 @@ use rules::InsertLinks;
 use rules::Inserted;
 use rules::Key;
 use rules::KeyAnswer;
-use slots::choice::one_below;
 use slots::headers::grown;
 use slots::headers::one_more;
 use slots::rows::set_row;
 use slots::words::new_slot;
-use slots::words::set_next;
-use slots::words::set_other_end;
-use slots::words::set_prev;
 use slots::words::set_version;
 use slots::words::version;
 
@@ -44,34 +41,6 @@ fn take_new(links: &mut [u32], rows: &mut [u32], header: Header, side: &[u32]) -
     Inserted {
         answer: KeyAnswer::Keyed(Key { index, version: 1 }),
         header: grown(header),
-    }
-}
-
-// The run is slot b alone, which leaves the chain; n comes first from now on.
-fn take_last(links: &mut [u32], n: u32)
-    ensures { λ _. ⌜ now (links .exit) ≡ takeLast (now (links .entry)) n ⌝ }
-{
-    set_next(links, 0, n);
-    set_prev(links, n, 0);
-}
-
-// The run from h to b ends at b - 1 from now on.
-fn take_back(links: &mut [u32], h: u32, b: u32)
-    ensures { λ _. ⌜ now (links .exit) ≡ takeBack (now (links .entry)) h b ⌝ }
-{
-    let back = one_below(b);
-    set_other_end(links, back, h);
-    set_other_end(links, h, back);
-}
-
-// The run loses its back slot.
-fn shorten(links: &mut [u32], x: InsertLinks)
-    ensures { λ _. ⌜ now (links .exit) ≡ shortened (now (links .entry)) x ⌝ }
-{
-    if x.h == x.b {
-        take_last(links, x.n);
-    } else {
-        take_back(links, x.h, x.b);
     }
 }
 

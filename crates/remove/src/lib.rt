@@ -1,6 +1,5 @@
 // Remove: first every refusal, by reading alone (numbers); then the slot joins the chain of vacant runs (chain), its version rises
 // and its row goes out. hop.rs 492-556 and 570-578
-mod chain;
 mod numbers;
 
 ghost use mathlib.Core.Path.{_≡_};

@@ -1,8 +1,8 @@
--- `remove::chain::join_left` meets its contract. Assumes nothing.
+-- `chain::freeing::join_left` meets its contract. Assumes nothing.
 use Rattle.rules.specs.Remove.{joinLeft}
 use borrow.Author.Needs.{needs}
-use Rattle.remove.proofs.chain.join_left.Statement.{statement}
-use Rattle.remove.proofs.chain.join_left.Tie as tie
+use Rattle.chain.proofs.freeing.join_left.Statement.{statement}
+use Rattle.chain.proofs.freeing.join_left.Tie as tie
 
 other-end-requires : tie.Need-other-end-requires
 other-end-requires c κs = search needs

@@ -1,8 +1,8 @@
--- `remove::chain::free` meets its contract. Assumes nothing.
+-- `chain::freeing::free` meets its contract. Assumes nothing.
 use Rattle.rules.specs.Remove.{freed}
 use borrow.Author.Needs.{needs}
-use Rattle.remove.proofs.chain.free.Statement.{statement}
-use Rattle.remove.proofs.chain.free.Tie as tie
+use Rattle.chain.proofs.freeing.free.Statement.{statement}
+use Rattle.chain.proofs.freeing.free.Tie as tie
 
 join-both-requires : tie.Need-join-both-requires
 join-both-requires c κs = search needs

@@ -1,8 +1,8 @@
--- `insert::take_last` meets its contract. Assumes nothing.
+-- `chain::shortening::take_last` meets its contract. Assumes nothing.
 use Rattle.rules.specs.Insert.{takeLast}
 use borrow.Author.Needs.{needs}
-use Rattle.insert.proofs.take_last.Statement.{statement}
-use Rattle.insert.proofs.take_last.Tie as tie
+use Rattle.chain.proofs.shortening.take_last.Statement.{statement}
+use Rattle.chain.proofs.shortening.take_last.Tie as tie
 
 set-next-requires : tie.Need-set-next-requires
 set-next-requires c κs = search needs

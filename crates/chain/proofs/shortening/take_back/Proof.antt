@@ -1,8 +1,8 @@
--- `insert::take_back` meets its contract. Assumes nothing.
+-- `chain::shortening::take_back` meets its contract. Assumes nothing.
 use Rattle.rules.specs.Insert.{takeBack}
 use borrow.Author.Needs.{needs}
-use Rattle.insert.proofs.take_back.Statement.{statement}
-use Rattle.insert.proofs.take_back.Tie as tie
+use Rattle.chain.proofs.shortening.take_back.Statement.{statement}
+use Rattle.chain.proofs.shortening.take_back.Tie as tie
 
 one-below-requires : tie.Need-one-below-requires
 one-below-requires c κs = search needs

@@ -1,9 +1,9 @@
--- `insert::shorten` meets its contract. Assumes nothing.
+-- `chain::shortening::shorten` meets its contract. Assumes nothing.
 use Rattle.rules.specs.Insert.{shortened}
 use borrow.Author.Tests.{eq-eqb, ne-eqb}
 use borrow.Author.Needs.{needs}
-use Rattle.insert.proofs.shorten.Statement.{statement}
-use Rattle.insert.proofs.shorten.Tie as tie
+use Rattle.chain.proofs.shortening.shorten.Statement.{statement}
+use Rattle.chain.proofs.shortening.shorten.Tie as tie
 
 take-last-requires : tie.Need-take-last-requires
 take-last-requires c κs = search needs

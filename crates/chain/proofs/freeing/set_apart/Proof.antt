@@ -1,8 +1,8 @@
--- `remove::chain::set_apart` meets its contract. Assumes nothing.
+-- `chain::freeing::set_apart` meets its contract. Assumes nothing.
 use Rattle.rules.specs.Remove.{setApart}
 use borrow.Author.Needs.{needs}
-use Rattle.remove.proofs.chain.set_apart.Statement.{statement}
-use Rattle.remove.proofs.chain.set_apart.Tie as tie
+use Rattle.chain.proofs.freeing.set_apart.Statement.{statement}
+use Rattle.chain.proofs.freeing.set_apart.Tie as tie
 
 prev-requires : tie.Need-prev-requires
 prev-requires c κs = search needs

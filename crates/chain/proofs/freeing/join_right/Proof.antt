@@ -1,8 +1,8 @@
--- `remove::chain::join_right` meets its contract. Assumes nothing.
+-- `chain::freeing::join_right` meets its contract. Assumes nothing.
 use Rattle.rules.specs.Remove.{joinRight}
 use borrow.Author.Needs.{needs}
-use Rattle.remove.proofs.chain.join_right.Statement.{statement}
-use Rattle.remove.proofs.chain.join_right.Tie as tie
+use Rattle.chain.proofs.freeing.join_right.Statement.{statement}
+use Rattle.chain.proofs.freeing.join_right.Tie as tie
 
 next-requires : tie.Need-next-requires
 next-requires c κs = search needs
