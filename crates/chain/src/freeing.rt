@@ -1,7 +1,7 @@
 // A freed slot joins the chain of vacant runs: four cases, in each all links are read and then written.
 ghost use mathlib.Core.Path.{_≡_};
 ghost use Rattle.rules.specs.Remove.{setApart, joinRight, joinLeft, joinBoth, freed};
-use rules::Beside;
+use rules::steps::Beside;
 use slots::words::next;
 use slots::words::other_end;
 use slots::words::prev;

@@ -1,7 +1,7 @@
 // A run loses its back slot, which an insert takes.
 ghost use mathlib.Core.Path.{_≡_};
 ghost use Rattle.rules.specs.Insert.{takeLast, takeBack, shortened};
-use rules::InsertLinks;
+use rules::steps::InsertLinks;
 use slots::choice::one_below;
 use slots::words::set_next;
 use slots::words::set_other_end;

@@ -11,7 +11,7 @@ use Rattle.rules.specs.Headers.{oneMore, grown}
 use Rattle.rules.specs.Insert.{runNumber, takeNumber, insertNumber, takeNew, takeSlot, takeLast, takeBack, shortened, insertStep, insertBy, insertRule}
 use Rattle.rules.specs.NeverRead.{AgreeTo, AgreeBelow, Alike, NeverReads}
 use Rattle.rules.specs.declared.Header.{Header}
-use Rattle.rules.specs.declared.InsertLinks.{InsertLinks}
+use Rattle.rules.specs.declared.steps.InsertLinks.{InsertLinks}
 use Rattle.rules.proofs.Choice.{by-pick, by-picks}
 use Rattle.rules.proofs.Links.{vacant-below, InsertPassed, insert-passed}
 use Rattle.rules.proofs.Agree.{same-link, link-agrees, slot-filled, row-agrees, row-filled}

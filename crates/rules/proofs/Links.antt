@@ -15,8 +15,8 @@ use Rattle.rules.specs.Insert.{lastSlot, runNumber, takeNumber, insertNu
 use Rattle.rules.specs.Remove.{apartNumber, leftNumber, rightNumber, removeNumber}
 use Rattle.rules.specs.Drain.{drainNumber}
 use Rattle.rules.specs.declared.Header.{Header}
-use Rattle.rules.specs.declared.InsertLinks.{InsertLinks}
-use Rattle.rules.specs.declared.Beside.{Beside}
+use Rattle.rules.specs.declared.steps.InsertLinks.{InsertLinks}
+use Rattle.rules.specs.declared.steps.Beside.{Beside}
 use Rattle.rules.proofs.Choice.{both-true, both-false}
 use Rattle.rules.proofs.Refusals.{passed}
 use Rattle.rules.proofs.Shape.{Shaped, side-entered}

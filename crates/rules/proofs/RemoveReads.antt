@@ -12,7 +12,7 @@ use Rattle.rules.specs.Drain.{drainNumber, drainSlot, drainRule}
 use Rattle.rules.specs.NeverRead.{AgreeTo, AgreeBelow, Alike, NeverReads}
 use Rattle.rules.specs.declared.Header.{Header}
 use Rattle.rules.specs.declared.Key.{Key}
-use Rattle.rules.specs.declared.Beside.{Beside}
+use Rattle.rules.specs.declared.steps.Beside.{Beside}
 use Rattle.rules.proofs.Choice.{by-pick, by-picks}
 use Rattle.rules.proofs.Shape.{held}
 use Rattle.rules.proofs.Links.{vacant-below, RemovePassed, remove-passed, drain-passed}

@@ -10,7 +10,7 @@ use Rattle.rules.specs.Headers.{oneMore, grown}
 use Rattle.rules.specs.Values.{Outcome, plain, keyed, unless}
 use Rattle.rules.specs.Refusals.{_▸_, damaged, full, astray, sideEntryNumber}
 use Rattle.rules.specs.declared.Header.{Header}
-use Rattle.rules.specs.declared.InsertLinks.{InsertLinks}
+use Rattle.rules.specs.declared.steps.InsertLinks.{InsertLinks}
 
 -- the links that insert follows: h = next(0), b = other_end(h), and n = next(h) where h = b, not 0
 abbrev pub insertLinks : List ℕ → ℕ → InsertLinks

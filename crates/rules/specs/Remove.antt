@@ -11,7 +11,7 @@ use Rattle.rules.specs.Refusals.{_▸_, passes, damaged, astray}
 use Rattle.rules.specs.Access.{keyNumber}
 use Rattle.rules.specs.declared.Header.{Header}
 use Rattle.rules.specs.declared.Key.{Key}
-use Rattle.rules.specs.declared.Beside.{Beside}
+use Rattle.rules.specs.declared.steps.Beside.{Beside}
 
 -- the slots beside slot i, and whether each is vacant: left is i − 1, right is i + 1 if below used
 abbrev pub beside : List ℕ → ℕ → ℕ → Beside

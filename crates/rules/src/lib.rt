@@ -1,4 +1,5 @@
 // The types of the calls, by value: what goes in and what comes back. The rules of the calls are in specs/.
+pub mod steps;
 
 // The most slots that may be lent; the link words of a slot; the words of its row.
 pub const LIMIT: usize = 4096;
@@ -123,19 +124,4 @@ pub struct Retained {
 pub struct Roomed {
     pub answer: CountAnswer,
     pub header: Header,
-}
-
-// What insert reads before it writes: h = next(0), b = other_end(h), n = next(h).
-pub struct InsertLinks {
-    pub h: u32,
-    pub b: u32,
-    pub n: u32,
-}
-
-// The slots beside one that is removed; before and after tell whether the left and the right one are vacant.
-pub struct Beside {
-    pub left: u32,
-    pub right: u32,
-    pub before: bool,
-    pub after: bool,
 }
