@@ -4,6 +4,7 @@ pub mod Refusals
 pub mod Headers
 pub mod Shape
 pub mod Links
+pub mod Full
 pub mod HopSteps
 pub mod DrainSteps
 pub mod Outcomes
