@@ -54,9 +54,9 @@ pub fn remove_slot(links: &mut [u32], rows: &mut [u32], header: Header, key: Key
     ensures { λ r. ⌜ removed r (now (links .exit)) (now (rows .exit)) ≡ removeSlot (now (links .entry)) (now (rows .entry)) header key ⌝ }
 {
     let x = beside(links, header.used, key.index);
-    let number = remove_number(links, header, x);
-    if number != 0 {
-        return refused(header, number);
+    let damage = remove_number(links, header, x);
+    if damage != 0 {
+        return refused(header, damage);
     }
     remove_step(links, rows, header, key, x)
 }
