@@ -59,6 +59,7 @@ fn join_both(links: &mut [u32], used: u32, left: u32, right: u32)
     set_other_end(links, e, f);
 }
 
+// Slot i joins the chain: by itself, or with the run on its left, on its right or on both sides.
 pub fn free(links: &mut [u32], used: u32, i: u32, x: Beside)
     ensures { λ _. ⌜ now (links .exit) ≡ freed (now (links .entry)) used i x ⌝ }
 {
@@ -68,11 +69,9 @@ pub fn free(links: &mut [u32], used: u32, i: u32, x: Beside)
         } else {
             join_left(links, used, i, x.left);
         }
+    } else if x.after {
+        join_right(links, used, i, x.right);
     } else {
-        if x.after {
-            join_right(links, used, i, x.right);
-        } else {
-            set_apart(links, used, i);
-        }
+        set_apart(links, used, i);
     }
 }

@@ -51,11 +51,11 @@ fn drain_slot(links: &mut [u32], rows: &mut [u32], header: Header, q: u32) -> Dr
     let gone = remove_slot(links, rows, header, key);
     let answer = gone.answer;
     let row = gone.row;
-    let rest = gone.header;
+    let header_after = gone.header;
     Drained {
         answer: as_drained(answer),
         row,
-        header: rest,
+        header: header_after,
     }
 }
 

@@ -51,15 +51,15 @@ fn take_slot(
     header: Header,
     side: &[u32],
     index: u32,
-    version: u32,
+    v: u32,
 ) -> Inserted
     requires { ⌜ header .live < 2 ^ 32 - 1 ⌝ }
-    ensures { λ r. ⌜ inserted r (now (links .exit)) (now (rows .exit)) ≡ takeSlot (now (links .entry)) (now (rows .entry)) header (now (side .entry)) index version ⌝ }
+    ensures { λ r. ⌜ inserted r (now (links .exit)) (now (rows .exit)) ≡ takeSlot (now (links .entry)) (now (rows .entry)) header (now (side .entry)) index v ⌝ }
 {
-    set_version(links, index, version);
+    set_version(links, index, v);
     set_row(rows, index, side);
     Inserted {
-        answer: KeyAnswer::Keyed(Key { index, version }),
+        answer: KeyAnswer::Keyed(Key { index, version: v }),
         header: one_more(header),
     }
 }

@@ -24,6 +24,7 @@ fn right_of(used: u32, i: u32) -> u32
     if i < used { i + 1 } else { i }
 }
 
+// As the rule beside, but for right where slot i is not in use; proofs/Beside shows that no rule looks at it there.
 pub fn beside(links: &[u32], used: u32, i: u32) -> Beside
     ensures { λ r. ⌜ r ≡ record { left = i - 1; right = pick (ltb i used) (i + 1) i; before = vacantAt (now (links .entry)) used (i - 1); after = vacantAt (now (links .entry)) used (i + 1) } ⌝ }
 {

@@ -12,7 +12,7 @@ use Rattle.rules.specs.Refusals.{_▸_, passes, damaged}
 use Rattle.rules.specs.Runs.{pastFront}
 use Rattle.rules.specs.Hop.{visit, hopNumber, hopAnswer, hopFrom}
 use Rattle.rules.specs.declared.Header.{Header}
-use Rattle.rules.proofs.Links.{Vacant, vacant, Occupied, occupied, not-vacant, not-occupied, past-used}
+use Rattle.rules.proofs.Links.{vacant, occupied, not-vacant, not-occupied, past-used}
 
 -- the last test of the chain, taken where its parts are
 last-test : (end next : Bool) (v : Values) →

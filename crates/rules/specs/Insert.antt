@@ -12,7 +12,7 @@ use Rattle.rules.specs.Refusals.{_▸_, damaged, full, astray, sideEntry
 use Rattle.rules.specs.declared.Header.{Header}
 use Rattle.rules.specs.declared.steps.InsertLinks.{InsertLinks}
 
--- the links that insert follows: h = next(0), b = other_end(h), and n = next(h) where h = b, not 0
+-- the links that insert follows: h = next(0), b = other_end(h), and n = next(h), which counts where h = b, not 0
 abbrev pub insertLinks : List ℕ → ℕ → InsertLinks
 insertLinks l used =
     let h = nextAt l used 0 in

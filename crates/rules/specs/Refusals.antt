@@ -1,5 +1,6 @@
 -- The numbers given when a call is turned down: by name, and as chains in document 01's order.
 -- A chain is made of segments; one that does not begin it takes the number so far. The first test that holds gives the number.
+-- What a step asks of its links may be a chain of its own, looked at where the one before it gave none.
 use Prim.Native.Nat.{ℕ, _-_, _/_, _%_}
 use mathlib.Core.List.{List}
 use mathlib.Core.Bool.{Bool, not}

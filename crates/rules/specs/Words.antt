@@ -105,7 +105,7 @@ occupiedAt l used i = both (ltb i used) (isOdd (versionAt l used i))
 abbrev pub withBit : ℕ → ℕ
 withBit v = v / 2 * 2 + 1
 
--- a version that rises by one, and wraps from 4,294,967,295 to 0
+-- one more in 32 bits: a version rises so, and wraps from 4,294,967,295 to 0
 abbrev pub rise : ℕ → ℕ
 rise v = (v + 1) % 2 ^ 32
 

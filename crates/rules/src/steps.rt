@@ -1,4 +1,4 @@
-// What the functions of one call hand to each other, by value; no caller meets it.
+// What the functions of one call hand to each other, by value; no user meets it.
 
 // What insert reads before it writes: h = next(0), b = other_end(h), n = next(h).
 pub struct InsertLinks {
