@@ -2,19 +2,17 @@
 ghost use mathlib.Core.Path.{_≡_};
 ghost use Rattle.rules.specs.Words.{zeroRow};
 ghost use Rattle.rules.specs.Values.{ofKey, ofDrain, drained};
-ghost use Rattle.rules.specs.Drain.{drainSlot, drainRule};
+ghost use Rattle.rules.specs.Remove.{removeAt};
+ghost use Rattle.rules.specs.Drain.{drainRule};
 use refusals::entry_number;
-use remove::remove_slot;
+use remove::remove_at;
 use rules::DAMAGED;
 use rules::DrainAnswer;
 use rules::Drained;
 use rules::Header;
-use rules::Key;
 use rules::KeyAnswer;
 use rules::ROW_WORDS;
-use slots::words::occupied;
 use slots::words::other_end;
-use slots::words::version;
 
 // An answer that comes with no row.
 fn rowless(answer: DrainAnswer, header: Header) -> Drained
@@ -37,18 +35,11 @@ fn as_drained(answer: KeyAnswer) -> DrainAnswer
     }
 }
 
-// Slot q goes, if it is occupied.
-fn drain_slot(links: &mut [u32], rows: &mut [u32], header: Header, q: u32) -> Drained
-    ensures { λ r. ⌜ drained r (now (links .exit)) (now (rows .exit)) ≡ drainSlot (now (links .entry)) (now (rows .entry)) header q ⌝ }
+// Slot q goes.
+fn drain_at(links: &mut [u32], rows: &mut [u32], header: Header, q: u32) -> Drained
+    ensures { λ r. ⌜ drained r (now (links .exit)) (now (rows .exit)) ≡ removeAt (now (links .entry)) (now (rows .entry)) header q ⌝ }
 {
-    if !occupied(links, header.used, q) {
-        return rowless(DrainAnswer::Refused(DAMAGED), header);
-    }
-    let key = Key {
-        index: q,
-        version: version(links, header.used, q),
-    };
-    let gone = remove_slot(links, rows, header, key);
+    let gone = remove_at(links, rows, header, q);
     let answer = gone.answer;
     let row = gone.row;
     let header_after = gone.header;
@@ -74,5 +65,5 @@ pub fn drain_step(links: &mut [u32], rows: &mut [u32], header: Header) -> Draine
     if header.used <= back {
         return rowless(DrainAnswer::Refused(DAMAGED), header);
     }
-    drain_slot(links, rows, header, back + 1)
+    drain_at(links, rows, header, back + 1)
 }

@@ -1,6 +1,7 @@
 // The links that insert follows, and the chain of its refusals: by reading alone.
 ghost use mathlib.Core.Path.{_≡_};
 ghost use Rattle.rules.specs.Insert.{insertLinks, runNumber, takeNumber, insertNumber};
+use refusals::or_astray;
 use refusals::or_if;
 use refusals::side_entry_number;
 use rules::DAMAGED;
@@ -44,13 +45,9 @@ fn take_number(n: u32, links: &[u32], header: Header, x: InsertLinks) -> u32
     let used = header.used;
     let full = used as usize == links.len() / LINK_WORDS;
     let last = both(x.h == x.b, x.b != 0);
-    let n = or_if(n, both(last, !vacant(links, used, x.n)), DAMAGED);
+    let n = or_astray(n, last, links, used, x.n);
     let n = or_if(n, both(last, x.n == x.h), DAMAGED);
-    let n = or_if(
-        n,
-        both(x.h != x.b, !vacant(links, used, one_below(x.b))),
-        DAMAGED,
-    );
+    let n = or_astray(n, x.h != x.b, links, used, one_below(x.b));
     or_if(n, both(x.b == 0, full), FULL)
 }
 

@@ -1,6 +1,7 @@
 // The chains of refusals, segment by segment, as in rules/specs/Refusals.
 ghost use mathlib.Core.Path.{_≡_};
-ghost use Rattle.rules.specs.Refusals.{_▸_, lentNumber, headerNumber, shapeNumber, sideNumber, zeroNumber, liveKey, liveNumber, entryNumber, sideEntryNumber};
+ghost use Rattle.rules.specs.Choice.{both};
+ghost use Rattle.rules.specs.Refusals.{_▸_, damaged, astray, lentNumber, headerNumber, shapeNumber, sideNumber, zeroNumber, liveKey, liveNumber, entryNumber, sideEntryNumber};
 ghost use Rattle.rules.specs.Access.{keyNumber};
 use rules::DAMAGED;
 use rules::EVEN_VERSION;
@@ -13,6 +14,7 @@ use rules::ROW_WORDS;
 use rules::SHAPE;
 use slots::choice::both;
 use slots::choice::one_below;
+use slots::words::vacant;
 use slots::words::version;
 
 // What a chain starts with: no number.
@@ -26,6 +28,13 @@ pub fn or_if(n: u32, test: bool, number: u32) -> u32
         return n;
     }
     if test { number } else { PASSES }
+}
+
+// One more test of a chain, about a link that the case at hand follows or does not: it leads to slot i.
+pub fn or_astray(n: u32, follows: bool, links: &[u32], used: u32, i: u32) -> u32
+    ensures { λ r. ⌜ r ≡ n ▸ (both follows (astray (now (links .entry)) used i), damaged) ⌝ }
+{
+    or_if(n, both(follows, !vacant(links, used, i)), DAMAGED)
 }
 
 // The lent tables alone, by their lengths.

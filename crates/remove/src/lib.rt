@@ -5,22 +5,43 @@ mod numbers;
 ghost use mathlib.Core.Path.{_≡_};
 ghost use Rattle.rules.specs.Words.{zeroRow};
 ghost use Rattle.rules.specs.Values.{removed};
-ghost use Rattle.rules.specs.Remove.{removeStep, removeSlot, removeRule};
+ghost use Prim.Native.Nat.{_<_};
+ghost use Rattle.rules.specs.Remove.{beside, removeStep, removeSlot, removeAt, removeRule};
 use chain::free;
-use numbers::beside;
 use numbers::remove_number;
 use refusals::key_number;
+use rules::DAMAGED;
 use rules::Header;
 use rules::Key;
 use rules::KeyAnswer;
 use rules::ROW_WORDS;
 use rules::Removed;
 use rules::steps::Beside;
+use slots::choice::one_below;
 use slots::headers::one_less;
 use slots::rows::clear_row;
 use slots::rows::row;
+use slots::words::occupied;
 use slots::words::set_version;
+use slots::words::vacant;
 use slots::words::version;
+
+// The slots beside slot i, which is in use.
+fn beside(links: &[u32], used: u32, i: u32) -> Beside
+    requires { ⌜ i < used ⌝ }
+    ensures { λ r. ⌜ r ≡ beside (now (links .entry)) used i ⌝ }
+{
+    let left = one_below(i);
+    let right = i + 1;
+    let before = vacant(links, used, left);
+    let after = vacant(links, used, right);
+    Beside {
+        left,
+        right,
+        before,
+        after,
+    }
+}
 
 fn refused(header: Header, number: u32) -> Removed
     ensures { λ r. ⌜ r ≡ record { answer = KeyAnswer.Refused number; row = zeroRow; header = header } ⌝ }
@@ -49,8 +70,9 @@ fn remove_step(links: &mut [u32], rows: &mut [u32], header: Header, key: Key, x:
     }
 }
 
-// The removal of an occupied slot that is in use, under its key, in a table of the right shape: what remove and the drain step share.
-pub fn remove_slot(links: &mut [u32], rows: &mut [u32], header: Header, key: Key) -> Removed
+// The removal of an occupied slot that is in use, under its key.
+fn remove_slot(links: &mut [u32], rows: &mut [u32], header: Header, key: Key) -> Removed
+    requires { ⌜ key .index < header .used ⌝ }
     ensures { λ r. ⌜ removed r (now (links .exit)) (now (rows .exit)) ≡ removeSlot (now (links .entry)) (now (rows .entry)) header key ⌝ }
 {
     let x = beside(links, header.used, key.index);
@@ -59,6 +81,20 @@ pub fn remove_slot(links: &mut [u32], rows: &mut [u32], header: Header, key: Key
         return refused(header, damage);
     }
     remove_step(links, rows, header, key, x)
+}
+
+// The removal of slot q under the key that it has, in a table of the right shape: for callers that go by slots.
+pub fn remove_at(links: &mut [u32], rows: &mut [u32], header: Header, q: u32) -> Removed
+    ensures { λ r. ⌜ removed r (now (links .exit)) (now (rows .exit)) ≡ removeAt (now (links .entry)) (now (rows .entry)) header q ⌝ }
+{
+    if !occupied(links, header.used, q) {
+        return refused(header, DAMAGED);
+    }
+    let key = Key {
+        index: q,
+        version: version(links, header.used, q),
+    };
+    remove_slot(links, rows, header, key)
 }
 
 // Takes the row of a live key out and hands it back.

@@ -1,4 +1,5 @@
--- The hop step by document 01's sentences: at or past used; at an occupied slot; over the run of a vacant one. Assumes nothing.
+-- The hop step by document 01's sentences: at or past used; at an occupied slot; inside a run; over the run of a vacant one.
+-- Assumes nothing.
 use Prim.Native.Nat.{ℕ, _+_, _≤_}
 use mathlib.Core.List.{List}
 use mathlib.Core.Bool.{Bool, true, false, not}
@@ -8,7 +9,7 @@ use borrow.Author.Tests.{le-leb, lt-leb, le-ltb}
 use Rattle.rules.specs.Choice.{pick, either}
 use Rattle.rules.specs.Words.{otherEndAt, vacantAt, occupiedAt}
 use Rattle.rules.specs.Values.{Values, answerUnless, done, refused}
-use Rattle.rules.specs.Refusals.{_▸_, passes, damaged}
+use Rattle.rules.specs.Refusals.{_▸_, passes, damaged, staleCursor}
 use Rattle.rules.specs.Runs.{pastFront}
 use Rattle.rules.specs.Hop.{visit, hopNumber, hopAnswer, hopFrom}
 use Rattle.rules.specs.declared.Header.{Header}
@@ -33,6 +34,10 @@ module _ (l : List ℕ) (hd : Header) (c : ℕ) where
   at-occupied e =
       let o = occupied l (hd .used) c e in
       simp (not-vacant l (hd .used) c o, e, lt-leb (hd .used) c (o .below))
+
+  pub inside-run : pastFront l (hd .used) c ≡ true → refused staleCursor ≡ hopFrom l hd c
+  unfolding hopFrom hopNumber _▸_
+  inside-run e = simp e
 
   -- slot c is the front of a run to back
   pub over-run : (back : ℕ) → back ≡ otherEndAt l (hd .used) c → vacantAt l (hd .used) c ≡ true → pastFront l (hd .used) c ≡ false → vacantAt l (hd .used) back ≡ true → c ≤ back →

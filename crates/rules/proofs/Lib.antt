@@ -6,7 +6,7 @@ pub mod Shape
 pub mod Links
 pub mod Full
 pub mod HopSteps
-pub mod DrainSteps
+pub mod RemoveSteps
 pub mod Outcomes
 pub mod Access
 pub mod Settled

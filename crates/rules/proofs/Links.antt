@@ -12,8 +12,7 @@ use Rattle.rules.specs.Choice.{both}
 use Rattle.rules.specs.Words.{rowWords, lentOf, versionAt, nextAt, prevAt, otherEndAt, vacantAt, occupiedAt}
 use Rattle.rules.specs.Refusals.{astray}
 use Rattle.rules.specs.Insert.{lastSlot, runNumber, takeNumber, insertNumber}
-use Rattle.rules.specs.Remove.{apartNumber, leftNumber, rightNumber, removeNumber}
-use Rattle.rules.specs.Drain.{drainNumber}
+use Rattle.rules.specs.Remove.{apartNumber, leftNumber, rightNumber, removeNumber, slotNumber}
 use Rattle.rules.specs.declared.Header.{Header}
 use Rattle.rules.specs.declared.steps.InsertLinks.{InsertLinks}
 use Rattle.rules.specs.declared.steps.Beside.{Beside}
@@ -164,9 +163,10 @@ remove-passed l hd x e =
     let e₂ = passed _ _ _ (omega arith) (e₃ .0) in
     let e₁ = passed _ _ _ (omega arith) (e₂ .0) in
     let one : hd .live ≡ 0 → ⊥ = eqb-false _ _ (e₁ .1) in
+    let neither : x .before ≡ false → x .after ≡ false → both (not (x .before)) (not (x .after)) ≡ true = λ b a. simp (b, a) in
     record {
       some = omega (arith, one);
-      last = λ b a. followed l (hd .used) _ (both-false _ _ (both-false _ _ (e₂ .1) (ap not b)) (ap not a));
+      last = λ b a. followed l (hd .used) _ (both-false _ _ (e₂ .1) (neither b a));
       front = λ b. followed l (hd .used) _ (both-false _ _ (e₃ .1) b);
       front-ordered = λ b. ltb-false _ _ (both-false _ _ (e₄ .1) b);
       next = λ a. followed l (hd .used) _ (both-false _ _ (e₅ .1) a);
@@ -175,7 +175,7 @@ remove-passed l hd x e =
       back-ordered = λ a. ltb-false _ _ (both-false _ _ (e₈ .1) a);
     }
 
--- the drain step: q = other_end(0) + 1
-pub drain-passed : (l : List ℕ) (hd : Header) (q : ℕ) → drainNumber l hd q ≡ 0 → Occupied l (hd .used) q
-unfolding drainNumber
-drain-passed l hd q e = occupied l (hd .used) q (not-false _ (passed _ _ _ (omega arith) e .1))
+-- the removal of slot q
+pub slot-passed : (l : List ℕ) (hd : Header) (q : ℕ) → slotNumber l hd q ≡ 0 → Occupied l (hd .used) q
+unfolding slotNumber
+slot-passed l hd q e = occupied l (hd .used) q (not-false _ (passed _ _ _ (omega arith) e .1))

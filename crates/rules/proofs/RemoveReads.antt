@@ -7,15 +7,15 @@ use native.Mathlib.Omega.{arith}
 use lib.Dec.{eqb}
 use Rattle.rules.specs.Words.{linkWords, zeroRow, vacantAt, occupiedAt}
 use Rattle.rules.specs.Access.{keyNumber}
-use Rattle.rules.specs.Remove.{apartNumber, leftNumber, rightNumber, removeNumber, setApart, joinRight, joinLeft, joinBoth, freed, removeStep, removeBy, removeSlot, removeRule}
-use Rattle.rules.specs.Drain.{drainNumber, drainSlot, drainRule}
+use Rattle.rules.specs.Remove.{apartNumber, leftNumber, rightNumber, removeNumber, setApart, joinRight, joinLeft, joinBoth, freed, removeStep, removeBy, removeSlot, slotNumber, removeAt, removeRule}
+use Rattle.rules.specs.Drain.{drainRule}
 use Rattle.rules.specs.NeverRead.{AgreeTo, AgreeBelow, Alike, NeverReads}
 use Rattle.rules.specs.declared.Header.{Header}
 use Rattle.rules.specs.declared.Key.{Key}
 use Rattle.rules.specs.declared.steps.Beside.{Beside}
 use Rattle.rules.proofs.Choice.{by-pick, by-picks}
 use Rattle.rules.proofs.Shape.{held}
-use Rattle.rules.proofs.Links.{vacant-below, RemovePassed, remove-passed, drain-passed}
+use Rattle.rules.proofs.Links.{vacant-below, RemovePassed, remove-passed, slot-passed}
 use Rattle.rules.proofs.Agree.{same-link, link-agrees, same-row, row-agrees}
 use Rattle.rules.proofs.Kept.{LinksKept, Keeps, link-kept, row-kept, unless-kept}
 use Rattle.rules.proofs.NeverRead.{plain-alike, unless-alike, same-entry, same-key}
@@ -73,7 +73,7 @@ remove-never-reads hd k =
     }
 
 pub drain-never-reads : (hd : Header) → NeverReads (hd .used) (λ l r. drainRule l r hd)
-unfolding drainRule drainSlot drainNumber occupiedAt
+unfolding drainRule removeAt slotNumber occupiedAt
 drain-never-reads hd =
     record {
       alike = λ l l′ r r′ g.
@@ -89,5 +89,5 @@ drain-never-reads hd =
           (λ _.
           by-pick (Keeps (hd .used) l r) (eqb (hd .live) 0) _ _
           (λ _. record { links = refl; rows = refl })
-          (λ _. unless-kept (hd .used) l r hd _ _ (λ e. removal-kept hd _ l r (drain-passed l hd _ e .below))));
+          (λ _. unless-kept (hd .used) l r hd _ _ (λ e. removal-kept hd _ l r (slot-passed l hd _ e .below))));
     }

@@ -13,7 +13,7 @@ use Rattle.rules.specs.Values.{Kind, gives, ends, refuses, Values, ofKey
 use Rattle.rules.specs.Start.{startRule, roomRule}
 use Rattle.rules.specs.Access.{keyNumber, replaceRule, RowPart}
 use Rattle.rules.specs.Insert.{insertRule}
-use Rattle.rules.specs.Remove.{removeSlot, removeRule}
+use Rattle.rules.specs.Remove.{removeAt, removeRule}
 use Rattle.rules.specs.Hop.{hopFrom, hopRule}
 use Rattle.rules.specs.Drain.{drainRule}
 use Rattle.rules.specs.declared.Header.{Header}
@@ -201,8 +201,8 @@ pub look-settled : (l : List ℕ) (r : RefT (List ℕ)) (hd : Header) (k : Key) 
 look-settled l r hd k x y p q = (p .words ∙ sym (q .words), p .place ∙ sym (q .place))
 
 -- and of the two parts of calls that are public in their crates
-pub remove-slot-settled : (l r : List ℕ) (hd : Header) (k : Key) → OneOutcome removed (removeSlot l r hd k)
-remove-slot-settled l r hd k = settled removed removed-readable (removeSlot l r hd k)
+pub remove-at-settled : (l r : List ℕ) (hd : Header) (q : ℕ) → OneOutcome removed (removeAt l r hd q)
+remove-at-settled l r hd q = settled removed removed-readable (removeAt l r hd q)
 
 pub hop-from-settled : (l : List ℕ) (hd : Header) (c : ℕ) (x y : HopAnswer) → ofHop x ≡ hopFrom l hd c → ofHop y ≡ hopFrom l hd c → x ≡ y
 hop-from-settled l hd c x y p q = sym (hop-back x) ∙ ap hopOf (p ∙ sym q) ∙ hop-back y

@@ -4,7 +4,7 @@ use mathlib.Core.List.{List}
 use mathlib.Core.Bool.{not}
 use lib.Dec.{ltb, eqb}
 use Rattle.rules.specs.Choice.{pick, both}
-use Rattle.rules.specs.Words.{rise, versionAt, nextAt, prevAt, otherEndAt, setVersion, setNext, setPrev, setOtherEnd, zeroRow, rowAt, setRow, vacantAt}
+use Rattle.rules.specs.Words.{rise, versionAt, nextAt, prevAt, otherEndAt, setVersion, setNext, setPrev, setOtherEnd, zeroRow, rowAt, setRow, vacantAt, occupiedAt, keyAt}
 use Rattle.rules.specs.Headers.{oneLess}
 use Rattle.rules.specs.Values.{Outcome, keyed, unless}
 use Rattle.rules.specs.Refusals.{_▸_, passes, damaged, astray}
@@ -28,7 +28,7 @@ unfoldable pub apartNumber : List ℕ → Header → Beside → ℕ
 apartNumber l hd x =
     passes
     ▸ (eqb (hd .live) 0, damaged)
-    ▸ (both (not (x .before)) (both (not (x .after)) (astray l (hd .used) (prevAt l (hd .used) 0))), damaged)
+    ▸ (both (both (not (x .before)) (not (x .after))) (astray l (hd .used) (prevAt l (hd .used) 0)), damaged)
 
 -- where left is vacant: f below used and vacant, and f ≤ i − 1
 unfoldable pub leftNumber : ℕ → List ℕ → Header → Beside → ℕ
@@ -104,6 +104,13 @@ removeBy l r hd k x = unless l r hd (removeNumber l hd x) (removeStep l r hd k x
 -- the removal of an occupied slot that is in use, under its key
 unfoldable pub removeSlot : List ℕ → List ℕ → Header → Key → Outcome
 removeSlot l r hd k = removeBy l r hd k (beside l (hd .used) (k .index))
+
+-- the removal of slot q under the key that it has; in the drain step it is below used and occupied, else 2
+unfoldable pub slotNumber : List ℕ → Header → ℕ → ℕ
+slotNumber l hd q = passes ▸ (not (occupiedAt l (hd .used) q), damaged)
+
+unfoldable pub removeAt : List ℕ → List ℕ → Header → ℕ → Outcome
+removeAt l r hd q = unless l r hd (slotNumber l hd q) (removeSlot l r hd (keyAt l (hd .used) q))
 
 unfoldable pub removeRule : List ℕ → List ℕ → Header → Key → Outcome
 removeRule l r hd k = unless l r hd (keyNumber l r hd k) (removeSlot l r hd k)

@@ -1,7 +1,7 @@
 -- `drain_step::drain_step` meets its contract. Assumes nothing.
 use Rattle.rules.specs.Drain.{drainRule}
 use Rattle.rules.proofs.Outcomes.{refused-by, done-by}
-use Rattle.rules.proofs.DrainSteps.{refused-past-used}
+use Rattle.rules.proofs.RemoveSteps.{refused-past-used}
 use mathlib.Core.Path.{sym}
 use borrow.Author.Tests.{eq-eqb, ne-eqb}
 use native.Mathlib.Omega.{arith}
@@ -54,11 +54,11 @@ returns-3 : tie.Need-returns-3
 unfolding drainRule
 returns-3 c = rw (c .rowless3 .ensures) (done-by _ _ _ _ _ (c .before .before .before .before .before .before .before .before .entry-number .ensures) _ (c .before .before .before .before .before .before .before .if1 .left) _ (simp (ne-eqb _ _ (c .before .before .before .before .before .if2 .left)) (sym (refused-past-used _ _ _ _ (omega (arith, c .before .if3 .taken, c .before .before .before .other-end .ensures))))))
 
-add-drain-slot : tie.Need-add-drain-slot
-add-drain-slot c = search needs
+add-drain-at : tie.Need-add-drain-at
+add-drain-at c = search needs
 
-drain-slot-requires : tie.Need-drain-slot-requires
-drain-slot-requires c κs = search needs
+drain-at-requires : tie.Need-drain-at-requires
+drain-at-requires c κs = search needs
 
 same-length-7 : tie.Need-same-length-7
 same-length-7 c = search needs
@@ -68,7 +68,7 @@ same-length-8 c = search needs
 
 returns-4 : tie.Need-returns-4
 unfolding drainRule
-returns-4 c = done-by _ _ _ _ _ (c .before .before .before .before .before .before .before .before .before .before .before .before .before .before .entry-number .ensures) _ (c .before .before .before .before .before .before .before .before .before .before .before .before .before .if1 .left) _ (simp (ne-eqb _ _ (c .before .before .before .before .before .before .before .before .before .before .before .if2 .left)) (rw (← c .before .before .before .before .before .before .before .before .before .other-end .ensures) (c .before .before .before .before .drain-slot .ensures)))
+returns-4 c = done-by _ _ _ _ _ (c .before .before .before .before .before .before .before .before .before .before .before .before .before .before .entry-number .ensures) _ (c .before .before .before .before .before .before .before .before .before .before .before .before .before .if1 .left) _ (simp (ne-eqb _ _ (c .before .before .before .before .before .before .before .before .before .before .before .if2 .left)) (rw (← c .before .before .before .before .before .before .before .before .before .other-end .ensures) (c .before .before .before .before .drain-at .ensures)))
 
 pub drain-step-spec : {M : Type 1} → statement M
 drain-step-spec =
@@ -88,8 +88,8 @@ drain-step-spec =
     same-length-5
     same-length-6
     returns-3
-    add-drain-slot
-    drain-slot-requires
+    add-drain-at
+    drain-at-requires
     same-length-7
     same-length-8
     returns-4)

@@ -2,7 +2,7 @@
 use Rattle.rules.specs.Refusals.{_▸_}
 use Rattle.rules.specs.Hop.{hopFrom, hopNumber}
 use Rattle.rules.proofs.Links.{Vacant, vacant}
-use Rattle.rules.proofs.HopSteps.{over-run}
+use Rattle.rules.proofs.HopSteps.{inside-run, over-run}
 use borrow.Author.Tests.{lt-ltb, not-true, not-false}
 use mathlib.Core.Path.{sym, _∙_}
 use native.Mathlib.Omega.{arith}
@@ -15,8 +15,7 @@ past-front-requires : tie.Need-past-front-requires
 past-front-requires c κs = search needs
 
 returns : tie.Need-returns
-unfolding hopFrom hopNumber _▸_
-returns c = simp (← c .before .past-front .ensures, c .if1 .taken)
+returns c = inside-run _ _ _ (sym (c .before .past-front .ensures) ∙ c .if1 .taken)
 
 other-end-requires : tie.Need-other-end-requires
 other-end-requires c κs = search needs

@@ -1,6 +1,8 @@
 -- `remove::remove` meets its contract. Assumes nothing.
 use Rattle.rules.specs.Remove.{removeRule}
+use Rattle.rules.proofs.Access.{live-within}
 use Rattle.rules.proofs.Outcomes.{refused-by, done-by}
+use mathlib.Core.Path.{sym, _∙_}
 use borrow.Author.Needs.{needs}
 use Rattle.remove.proofs.remove.Statement.{statement}
 use Rattle.remove.proofs.remove.Tie as tie
@@ -22,7 +24,7 @@ unfolding removeRule
 returns c = rw (c .refused .ensures) (refused-by _ _ _ _ _ (c .before .before .key-number .ensures) _ (c .before .if1 .taken))
 
 remove-slot-requires : tie.Need-remove-slot-requires
-remove-slot-requires c κs = search needs
+remove-slot-requires c κs = live-within _ _ _ _ (sym (c .before .before .before .key-number .ensures) ∙ c .before .before .if1 .left) .0
 
 same-length-3 : tie.Need-same-length-3
 same-length-3 c = search needs

@@ -1,8 +1,6 @@
 -- `remove::remove_slot` meets its contract. Assumes nothing.
-use Rattle.rules.specs.Remove.{removeBy}
+use Rattle.rules.specs.Remove.{removeSlot, removeBy}
 use Rattle.rules.proofs.Outcomes.{refused-by, done-by}
-use Rattle.remove.proofs.Beside.{right-if-used}
-use denote.Ref.{now}
 use borrow.Author.Needs.{needs}
 use Rattle.remove.proofs.remove_slot.Statement.{statement}
 use Rattle.remove.proofs.remove_slot.Tie as tie
@@ -20,8 +18,8 @@ same-length : tie.Need-same-length
 same-length c = search needs
 
 returns : tie.Need-returns
-unfolding removeBy
-returns c = rw (c .refused .ensures, ← right-if-used (now (c .before .before .before .before .before .before .before .before .args .links)) (now (c .before .before .before .before .before .before .before .before .args .rows)) (c .before .before .before .before .before .before .before .before .args .header) (c .before .before .before .before .before .before .before .before .args .key), ← c .before .before .before .before .beside .ensures) (refused-by _ _ _ _ _ (c .before .before .remove-number .ensures) _ (c .before .if1 .taken))
+unfolding removeSlot removeBy
+returns c = rw (c .refused .ensures, ← c .before .before .before .before .beside .ensures) (refused-by _ _ _ _ _ (c .before .before .remove-number .ensures) _ (c .before .if1 .taken))
 
 remove-step-requires : tie.Need-remove-step-requires
 remove-step-requires c κs = search needs
@@ -33,8 +31,8 @@ same-length-3 : tie.Need-same-length-3
 same-length-3 c = search needs
 
 returns-2 : tie.Need-returns-2
-unfolding removeBy
-returns-2 c = rw (← right-if-used (now (c .before .before .before .before .before .before .before .before .before .before .before .before .before .before .args .links)) (now (c .before .before .before .before .before .before .before .before .before .before .before .before .before .before .args .rows)) (c .before .before .before .before .before .before .before .before .before .before .before .before .before .before .args .header) (c .before .before .before .before .before .before .before .before .before .before .before .before .before .before .args .key), ← c .before .before .before .before .before .before .before .before .before .before .beside .ensures) (done-by _ _ _ _ _ (c .before .before .before .before .before .before .before .before .remove-number .ensures) _ (c .before .before .before .before .before .before .before .if1 .left) _ (c .before .before .before .before .remove-step .ensures))
+unfolding removeSlot removeBy
+returns-2 c = rw (← c .before .before .before .before .before .before .before .before .before .before .beside .ensures) (done-by _ _ _ _ _ (c .before .before .before .before .before .before .before .before .remove-number .ensures) _ (c .before .before .before .before .before .before .before .if1 .left) _ (c .before .before .before .before .remove-step .ensures))
 
 pub remove-slot-spec : {M : Type 1} → statement M
 remove-slot-spec =

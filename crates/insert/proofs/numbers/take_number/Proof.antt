@@ -10,8 +10,8 @@ cast-full c = search needs
 both-requires : tie.Need-both-requires
 both-requires c κs = search needs
 
-vacant-requires : tie.Need-vacant-requires
-vacant-requires c κs = search needs
+or-astray-requires : tie.Need-or-astray-requires
+or-astray-requires c κs = search needs
 
 both-requires-2 : tie.Need-both-requires-2
 both-requires-2 c κs = search needs
@@ -19,29 +19,17 @@ both-requires-2 c κs = search needs
 or-if-requires : tie.Need-or-if-requires
 or-if-requires c κs = search needs
 
+one-below-requires : tie.Need-one-below-requires
+one-below-requires c κs = search needs
+
+or-astray-requires-2 : tie.Need-or-astray-requires-2
+or-astray-requires-2 c κs = search needs
+
 both-requires-3 : tie.Need-both-requires-3
 both-requires-3 c κs = search needs
 
 or-if-requires-2 : tie.Need-or-if-requires-2
 or-if-requires-2 c κs = search needs
-
-one-below-requires : tie.Need-one-below-requires
-one-below-requires c κs = search needs
-
-vacant-requires-2 : tie.Need-vacant-requires-2
-vacant-requires-2 c κs = search needs
-
-both-requires-4 : tie.Need-both-requires-4
-both-requires-4 c κs = search needs
-
-or-if-requires-3 : tie.Need-or-if-requires-3
-or-if-requires-3 c κs = search needs
-
-both-requires-5 : tie.Need-both-requires-5
-both-requires-5 c κs = search needs
-
-or-if-requires-4 : tie.Need-or-if-requires-4
-or-if-requires-4 c κs = search needs
 
 returns : tie.Need-returns
 unfolding takeNumber
@@ -53,15 +41,11 @@ take-number-spec =
     (tie.spec
     cast-full
     both-requires
-    vacant-requires
+    or-astray-requires
     both-requires-2
     or-if-requires
+    one-below-requires
+    or-astray-requires-2
     both-requires-3
     or-if-requires-2
-    one-below-requires
-    vacant-requires-2
-    both-requires-4
-    or-if-requires-3
-    both-requires-5
-    or-if-requires-4
     returns)

@@ -10,17 +10,11 @@ prev-requires c κs = search needs
 or-if-requires : tie.Need-or-if-requires
 or-if-requires c κs = search needs
 
-vacant-requires : tie.Need-vacant-requires
-vacant-requires c κs = search needs
-
 both-requires : tie.Need-both-requires
 both-requires c κs = search needs
 
-both-requires-2 : tie.Need-both-requires-2
-both-requires-2 c κs = search needs
-
-or-if-requires-2 : tie.Need-or-if-requires-2
-or-if-requires-2 c κs = search needs
+or-astray-requires : tie.Need-or-astray-requires
+or-astray-requires c κs = search needs
 
 returns : tie.Need-returns
 unfolding apartNumber
@@ -28,12 +22,4 @@ returns c = cc
 
 pub apart-number-spec : {M : Type 1} → statement M
 apart-number-spec =
-    tie.close
-    (tie.spec
-    prev-requires
-    or-if-requires
-    vacant-requires
-    both-requires
-    both-requires-2
-    or-if-requires-2
-    returns)
+    tie.close (tie.spec prev-requires or-if-requires both-requires or-astray-requires returns)

@@ -7,8 +7,8 @@ use Rattle.remove.proofs.numbers.left_number.Tie as tie
 other-end-requires : tie.Need-other-end-requires
 other-end-requires c κs = search needs
 
-vacant-requires : tie.Need-vacant-requires
-vacant-requires c κs = search needs
+or-astray-requires : tie.Need-or-astray-requires
+or-astray-requires c κs = search needs
 
 both-requires : tie.Need-both-requires
 both-requires c κs = search needs
@@ -16,24 +16,10 @@ both-requires c κs = search needs
 or-if-requires : tie.Need-or-if-requires
 or-if-requires c κs = search needs
 
-both-requires-2 : tie.Need-both-requires-2
-both-requires-2 c κs = search needs
-
-or-if-requires-2 : tie.Need-or-if-requires-2
-or-if-requires-2 c κs = search needs
-
 returns : tie.Need-returns
 unfolding leftNumber
 returns c = cc
 
 pub left-number-spec : {M : Type 1} → statement M
 left-number-spec =
-    tie.close
-    (tie.spec
-    other-end-requires
-    vacant-requires
-    both-requires
-    or-if-requires
-    both-requires-2
-    or-if-requires-2
-    returns)
+    tie.close (tie.spec other-end-requires or-astray-requires both-requires or-if-requires returns)

@@ -1,2 +1,0 @@
--- What the proofs of remove share.
-mod Beside
