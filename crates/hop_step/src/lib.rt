@@ -4,7 +4,7 @@ ghost use mathlib.Core.Bool.{true};
 ghost use Prim.Native.Nat.{_<_};
 ghost use lib.Dec.{eqb};
 ghost use Rattle.rules.specs.Choice.{pick};
-ghost use Rattle.rules.specs.Words.{vacantAt, occupiedAt};
+ghost use Rattle.rules.specs.Words.{versionAt, vacantAt, occupiedAt};
 ghost use Rattle.rules.specs.Values.{ofHop, done, refused, hopped};
 ghost use Rattle.rules.specs.Refusals.{damaged};
 ghost use Rattle.rules.specs.Runs.{pastFront};
@@ -38,7 +38,7 @@ fn visit(links: &[u32], used: u32, i: u32) -> HopAnswer
 
 // Slot i is vacant, and so is the one before it.
 fn past_front(links: &[u32], used: u32, i: u32) -> bool
-    ensures { λ r. ⌜ r ≡ pastFront (now (links .entry)) used i ⌝ }
+    ensures { λ r. ⌜ r ≡ pastFront (versionAt (now (links .entry)) used) used i ⌝ }
 {
     let before = both(0 < i, vacant(links, used, one_below(i)));
     both(vacant(links, used, i), before)

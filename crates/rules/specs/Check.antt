@@ -16,22 +16,22 @@ unfoldable pub endsTest : List ℕ → ℕ → Bool
 endsTest l used =
     allBelow used
     (λ i.
-    either (not (isBack l used i))
-    (both (eqb (otherEndAt l used (frontOf l used i)) i) (eqb (otherEndAt l used i) (frontOf l used i))))
+    either (not (isBack (versionAt l used) used i))
+    (both (eqb (otherEndAt l used (frontOf (versionAt l used) used i)) i) (eqb (otherEndAt l used i) (frontOf (versionAt l used) used i))))
 
 -- from slot x next comes to 0 in n steps and no sooner, over fronts alone, and prev undoes each step
 unfoldable pub circleTest : List ℕ → ℕ → ℕ → ℕ → Bool
 circleTest l used zero x = false
 circleTest l used (suc n) x =
     let y = nextAt l used x in
-    both (both (isFront l used y) (eqb (prevAt l used y) x))
+    both (both (isFront (versionAt l used) used y) (eqb (prevAt l used y) x))
     (pick (eqb y 0) (eqb n 0) (circleTest l used n y))
 
 unfoldable pub soundTest : List ℕ → Header → Bool
 soundTest l hd =
     both (isEven (versionAt l (hd .used) 0))
-    (both (eqb (hd .live) (oddCount l (hd .used)))
-    (both (endsTest l (hd .used)) (circleTest l (hd .used) (runCount l (hd .used)) 0)))
+    (both (eqb (hd .live) (oddCount (versionAt l (hd .used)) (hd .used)))
+    (both (endsTest l (hd .used)) (circleTest l (hd .used) (runCount (versionAt l (hd .used)) (hd .used)) 0)))
 
 -- the whole soundness check, after the number so far
 unfoldable pub soundNumber : ℕ → List ℕ → Header → ℕ

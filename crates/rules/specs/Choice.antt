@@ -32,7 +32,10 @@ unfoldable pub countBelow : ℕ → (ℕ → Bool) → ℕ
 countBelow zero t = 0
 countBelow (suc n) t = countBelow n t + one-if (t n)
 
--- how often x stands in the list
-unfoldable pub times : ℕ → List ℕ → ℕ
+-- 1 where the two are one number, else 0; how often x stands in the list
+unfoldable pub alike : ℕ → ℕ → ℕ
+alike x y = one-if (eqb x y)
+
+abbrev pub times : ℕ → List ℕ → ℕ
 times x [] = 0
-times x (y ∷ ys) = one-if (eqb x y) + times x ys
+times x (y ∷ ys) = alike x y + times x ys

@@ -4,7 +4,7 @@ use mathlib.Core.List.{List}
 use mathlib.Core.Bool.{not}
 use lib.Dec.{ltb, leb, eqb}
 use Rattle.rules.specs.Choice.{pick, both, either}
-use Rattle.rules.specs.Words.{otherEndAt, vacantAt, occupiedAt, keyAt}
+use Rattle.rules.specs.Words.{versionAt, otherEndAt, vacantAt, occupiedAt, keyAt}
 use Rattle.rules.specs.Values.{Values, Outcome, answerUnless, plain, visited, done, unless}
 use Rattle.rules.specs.Refusals.{_▸_, passes, damaged, staleCursor, astray, entryNumber}
 use Rattle.rules.specs.Runs.{pastFront}
@@ -14,7 +14,7 @@ use Rattle.rules.specs.declared.Header.{Header}
 unfoldable pub hopNumber : List ℕ → Header → ℕ → ℕ → ℕ
 hopNumber l hd c back =
     passes
-    ▸ (pastFront l (hd .used) c, staleCursor)
+    ▸ (pastFront (versionAt l (hd .used)) (hd .used) c, staleCursor)
     ▸ (both (vacantAt l (hd .used) c) (astray l (hd .used) back), damaged)
     ▸ (both (vacantAt l (hd .used) c) (ltb back c), damaged)
     ▸ (both (vacantAt l (hd .used) c) (not (either (occupiedAt l (hd .used) (back + 1)) (eqb (back + 1) (hd .used)))), damaged)

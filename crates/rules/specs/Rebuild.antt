@@ -44,11 +44,11 @@ chainRun l p f b = setOtherEnd (setPrev (setNext (setNext (setOtherEnd l b f) p 
 -- slot i, of n: a front is kept in mind, and at a back its run is chained
 unfoldable pub chainSlot : ℕ → ℕ → Chain → Chain
 chainSlot n i c =
-    let f = pick (isFront (c .links) n i) i (c .front) in
+    let f = pick (isFront (versionAt (c .links) n) n i) i (c .front) in
     record {
-      links = pick (isBack (c .links) n i) (chainRun (c .links) (c .last) f i) (c .links);
+      links = pick (isBack (versionAt (c .links) n) n i) (chainRun (c .links) (c .last) f i) (c .links);
       front = f;
-      last = pick (isBack (c .links) n i) f (c .last);
+      last = pick (isBack (versionAt (c .links) n) n i) f (c .last);
     }
 
 -- the slots below k, of n, in rising order
@@ -69,7 +69,7 @@ unfoldable pub relinked : List ℕ → ℕ → Relinked
 relinked l n =
     record {
       links = closed (chainSlots n n (record { links = unlinked n l; front = 0; last = 0 }));
-      header = rebuilt n (oddCount l n);
+      header = rebuilt n (oddCount (versionAt l n) n);
     }
 
 -- clearing: the rows of the vacant slots below k, of n, become zero

@@ -79,10 +79,12 @@ unfoldable pub zeroNumber : ℕ → List ℕ → Header → ℕ
 zeroNumber n l hd = n ▸ (isOdd (versionAt l (hd .used) 0), damaged)
 
 -- a key is live when the index is below used and the version is odd and equals the slot's
+abbrev pub liveBy : (ℕ → ℕ) → ℕ → Key → Bool
+liveBy versions used key =
+    both (ltb (key .index) used) (both (isOdd (key .version)) (eqb (versions (key .index)) (key .version)))
+
 unfoldable pub liveKey : List ℕ → Header → Key → Bool
-liveKey l hd key =
-    both (ltb (key .index) (hd .used))
-    (both (isOdd (key .version)) (eqb (versionAt l (hd .used) (key .index)) (key .version)))
+liveKey l hd key = liveBy (versionAt l (hd .used)) (hd .used) key
 
 -- 3: key with an even version; 4: key not live
 unfoldable pub liveNumber : ℕ → List ℕ → Header → Key → ℕ

@@ -13,7 +13,7 @@ pub record ZeroEven (l : List ℕ) (hd : Header) : Type 0 where
 
 -- live is the count of odd versions below used
 pub record LiveCount (l : List ℕ) (hd : Header) : Type 0 where
-  pub counted : hd .live ≡ oddCount l (hd .used)
+  pub counted : hd .live ≡ oddCount (versionAt l (hd .used)) (hd .used)
 
 -- from slot a next goes over the slots of the list to slot b
 abbrev pub Follows : List ℕ → ℕ → ℕ → List ℕ → ℕ → Type 0
@@ -25,14 +25,14 @@ Follows l used a (x ∷ xs) b = (nextAt l used a ≡ x) × Follows l used x xs b
 pub record Circle (l : List ℕ) (hd : Header) : Type 0 where
   pub after : List ℕ
   pub follows : Follows l (hd .used) 0 after 0
-  pub every : (i : ℕ) → Front l (hd .used) i → times i (0 ∷ after) ≡ 1
-  pub only : (i : ℕ) → 1 ≤ times i (0 ∷ after) → Front l (hd .used) i
+  pub every : (i : ℕ) → Front (versionAt l (hd .used)) (hd .used) i → times i (0 ∷ after) ≡ 1
+  pub only : (i : ℕ) → 1 ≤ times i (0 ∷ after) → Front (versionAt l (hd .used)) (hd .used) i
   pub undone : (i : ℕ) → 1 ≤ times i (0 ∷ after) → prevAt l (hd .used) (nextAt l (hd .used) i) ≡ i
 
 -- at each run's front other_end is its back, and at its back other_end is its front
 pub record Ends (l : List ℕ) (hd : Header) : Type 0 where
-  pub back : (f b : ℕ) → Run l (hd .used) f b → otherEndAt l (hd .used) f ≡ b
-  pub front : (f b : ℕ) → Run l (hd .used) f b → otherEndAt l (hd .used) b ≡ f
+  pub back : (f b : ℕ) → Run (versionAt l (hd .used)) (hd .used) f b → otherEndAt l (hd .used) f ≡ b
+  pub front : (f b : ℕ) → Run (versionAt l (hd .used)) (hd .used) f b → otherEndAt l (hd .used) b ≡ f
 
 pub record Sound (l : List ℕ) (hd : Header) : Type 0 where
   pub zero-even : ZeroEven l hd

@@ -94,12 +94,18 @@ isOdd v = eqb (v % 2) 1
 abbrev pub isEven : ℕ → Bool
 isEven v = eqb (v % 2) 0
 
--- slot i is in use, and vacant; in use, and occupied
+-- slot i is in use, and vacant; in use, and occupied: as its version tells
+abbrev pub vacantBy : (ℕ → ℕ) → ℕ → ℕ → Bool
+vacantBy versions used i = both (ltb i used) (isEven (versions i))
+
+abbrev pub occupiedBy : (ℕ → ℕ) → ℕ → ℕ → Bool
+occupiedBy versions used i = both (ltb i used) (isOdd (versions i))
+
 unfoldable pub vacantAt : List ℕ → ℕ → ℕ → Bool
-vacantAt l used i = both (ltb i used) (isEven (versionAt l used i))
+vacantAt l used i = vacantBy (versionAt l used) used i
 
 unfoldable pub occupiedAt : List ℕ → ℕ → ℕ → Bool
-occupiedAt l used i = both (ltb i used) (isOdd (versionAt l used i))
+occupiedAt l used i = occupiedBy (versionAt l used) used i
 
 -- a version with its lowest bit set
 abbrev pub withBit : ℕ → ℕ

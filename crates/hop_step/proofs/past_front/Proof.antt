@@ -1,4 +1,5 @@
 -- `hop_step::past_front` meets its contract. Assumes nothing.
+use Rattle.rules.specs.Words.{vacantAt}
 use Rattle.rules.specs.Runs.{pastFront}
 use borrow.Author.Needs.{needs}
 use Rattle.hop_step.proofs.past_front.Statement.{statement}
@@ -20,7 +21,7 @@ both-requires-2 : tie.Need-both-requires-2
 both-requires-2 c κs = search needs
 
 returns : tie.Need-returns
-unfolding pastFront
+unfolding pastFront vacantAt
 returns c = cc
 
 pub past-front-spec : {M : Type 1} → statement M
