@@ -1,0 +1,10 @@
+pub mod Points
+pub mod Times
+pub mod Segments
+pub mod Runs
+pub mod Fronts
+pub mod Counts
+pub mod Freed
+pub mod Filled
+pub mod Grown
+pub mod Linked

@@ -1,0 +1,80 @@
+-- A doubly linked way through slots, by next and prev, and the four ways to edit it. Assumes nothing.
+use mathlib.Core.Path.{_≡_, refl, sym, ap, _∙_, subst}
+use mathlib.Core.Logic.{_≢_}
+use mathlib.Core.List.{List, [], _∷_, _++_}
+use Prim.Native.Nat.{ℕ, zero, suc, _+_, _-_, _≤_, _<_, _%_}
+use native.Mathlib.Decide.{ℕ-discrete, decLe, decLt}
+use native.Mathlib.Omega.{arith}
+use Rattle.rules.specs.Choice.{alike, times}
+use Rattle.runs.proofs.Points.{alike-same}
+
+-- a doubly linked segment: from a over the list to b
+abbrev pub Seg : (ℕ → ℕ) → (ℕ → ℕ) → ℕ → List ℕ → ℕ → Type 0
+Seg n p a [] b = (n a ≡ b) × (p b ≡ a)
+Seg n p a (x ∷ l) b = (n a ≡ x) × (p x ≡ a) × Seg n p x l b
+
+module _ (n p : ℕ → ℕ) where
+  pub seg-split : (a : ℕ) (l : List ℕ) (x : ℕ) (m : List ℕ) (b : ℕ) → Seg n p a (l ++ x ∷ m) b → Seg n p a l x × Seg n p x m b
+  seg-split a [] x m b s = ((s .0, s .1), s .2)
+  seg-split a (y ∷ l) x m b s = let r = seg-split y l x m b (s .2) in ((s .0, s .1, r .0), r .1)
+
+  pub seg-join : (a : ℕ) (l : List ℕ) (x : ℕ) (m : List ℕ) (b : ℕ) → Seg n p a l x → Seg n p x m b → Seg n p a (l ++ x ∷ m) b
+  seg-join a [] x m b s t = (s .0, s .1, t)
+  seg-join a (y ∷ l) x m b s t = (s .0, s .1, seg-join y l x m b (s .2) t)
+
+  -- the one before the end is on the way
+  pub seg-last : (a : ℕ) (l : List ℕ) (b : ℕ) → Seg n p a l b → 1 ≤ times (p b) (a ∷ l)
+  seg-last a [] b s = omega (arith, alike-same (p b) a (s .1))
+  seg-last a (x ∷ l) b s = let r = seg-last x l b (s .2) in omega arith
+
+  -- the one after the start is on the way
+  pub seg-first : (a : ℕ) (l : List ℕ) (b : ℕ) → Seg n p a l b → 1 ≤ times (n a) l + alike (n a) b
+  seg-first a [] b s = omega (arith, alike-same (n a) b (s .0))
+  seg-first a (x ∷ l) b s = omega (arith, alike-same (n a) x (s .0))
+
+module _ (n p n′ p′ : ℕ → ℕ) where
+  -- a segment stands where the words on it stand
+  pub seg-frame : (a : ℕ) (l : List ℕ) (b : ℕ) → Seg n p a l b
+    → ((k : ℕ) → 1 ≤ times k (a ∷ l) → n′ k ≡ n k) → ((k : ℕ) → 1 ≤ times k l + alike k b → p′ k ≡ p k) → Seg n′ p′ a l b
+  seg-frame a [] b s hn hp = (hn a (omega (arith, alike-same a a refl)) ∙ s .0, hp b (omega (arith, alike-same b b refl)) ∙ s .1)
+  seg-frame a (x ∷ l) b s hn hp =
+    ( hn a (omega (arith, alike-same a a refl)) ∙ s .0
+    , hp x (omega (arith, alike-same x x refl)) ∙ s .1
+    , seg-frame x l b (s .2) (λ k h. hn k (omega arith)) (λ k h. hp k (omega arith)))
+
+  -- the segment's end moved from b to c
+  pub seg-end : (a : ℕ) (l : List ℕ) (b c : ℕ) → Seg n p a l b
+    → ((k : ℕ) → times k (a ∷ l) ≤ 1)
+    → n′ (p b) ≡ c → p′ c ≡ p b
+    → ((k : ℕ) → 1 ≤ times k (a ∷ l) → k ≢ p b → n′ k ≡ n k) → ((k : ℕ) → 1 ≤ times k l → p′ k ≡ p k) → Seg n′ p′ a l c
+  seg-end a [] b c s once e₁ e₂ hn hp = (ap n′ (sym (s .1)) ∙ e₁, e₂ ∙ s .1)
+  seg-end a (x ∷ l) b c s once e₁ e₂ hn hp =
+    ( hn a (omega (arith, alike-same a a refl)) (λ e. omega (arith, once (p b), seg-last n p x l b (s .2), alike-same (p b) a (sym e))) ∙ s .0
+    , hp x (omega (arith, alike-same x x refl)) ∙ s .1
+    , seg-end x l b c (s .2) (λ k. omega (arith, once k)) e₁ e₂ (λ k h. hn k (omega arith)) (λ k h. hp k (omega arith)))
+
+  -- the segment's start moved from a to c
+  pub seg-start : (a : ℕ) (l : List ℕ) (b c : ℕ) → Seg n p a l b
+    → ((k : ℕ) → times k l + alike k b ≤ 1)
+    → p′ (n a) ≡ c → n′ c ≡ n a
+    → ((k : ℕ) → 1 ≤ times k l → n′ k ≡ n k) → ((k : ℕ) → 1 ≤ times k l + alike k b → k ≢ n a → p′ k ≡ p k) → Seg n′ p′ c l b
+  seg-start a [] b c s once e₁ e₂ hn hp = (e₂ ∙ s .0, ap p′ (sym (s .0)) ∙ e₁)
+  seg-start a (x ∷ l) b c s once e₁ e₂ hn hp =
+    ( e₂ ∙ s .0
+    , ap p′ (sym (s .0)) ∙ e₁
+    , seg-frame x l b (s .2) hn (λ k h. hp k (omega arith) (λ e. omega (arith, once k, alike-same k x (e ∙ s .0)))))
+
+  -- r taken out of the way from a to b
+  pub seg-cut : (a : ℕ) (l : List ℕ) (r : ℕ) (m : List ℕ) (b : ℕ) → Seg n p a l r → Seg n p r m b
+    → ((k : ℕ) → times k (a ∷ l) + times k m ≤ 1) → ((k : ℕ) → times k l + (times k m + alike k b) ≤ 1)
+    → n′ (p r) ≡ n r → p′ (n r) ≡ p r
+    → ((k : ℕ) → 1 ≤ times k (a ∷ l) + times k m → k ≢ p r → n′ k ≡ n k)
+    → ((k : ℕ) → 1 ≤ times k l + (times k m + alike k b) → k ≢ n r → p′ k ≡ p k)
+    → Seg n′ p′ a (l ++ m) b
+  seg-cut a [] r m b s t o₁ o₂ e₁ e₂ hn hp = seg-start r m b a t (λ k. omega (arith, o₂ k)) (e₂ ∙ s .1) (ap n′ (sym (s .1)) ∙ e₁)
+    (λ k h. hn k (omega arith) (λ q. omega (arith, o₁ k, alike-same k a (q ∙ s .1))))
+    (λ k h. hp k (omega arith))
+  seg-cut a (x ∷ l) r m b s t o₁ o₂ e₁ e₂ hn hp =
+    ( hn a (omega (arith, alike-same a a refl)) (λ q. omega (arith, o₁ (p r), seg-last n p x l r (s .2), alike-same (p r) a (sym q))) ∙ s .0
+    , hp x (omega (arith, alike-same x x refl)) (λ q. omega (arith, o₂ (n r), seg-first n p r m b t, alike-same (n r) x (sym q))) ∙ s .1
+    , seg-cut x l r m b (s .2) t (λ k. omega (arith, o₁ k)) (λ k. omega (arith, o₂ k)) e₁ e₂ (λ k h. hn k (omega arith)) (λ k h. hp k (omega arith)))
