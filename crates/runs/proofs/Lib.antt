@@ -8,3 +8,4 @@ pub mod Freed
 pub mod Filled
 pub mod Grown
 pub mod Linked
+pub mod Sound
