@@ -1,0 +1,22 @@
+-- A table of words and the machine that it is; a call of the rules and the machine's step that it is.
+use Prim.Native.Nat.{ℕ}
+use mathlib.Core.List.{List}
+use mathlib.Core.Path.{_≡_}
+use Rattle.rules.specs.Values.{Outcome}
+use Rattle.rules.specs.Refusals.{shapeNumber}
+use Rattle.rules.specs.Sound.{Sound}
+use Rattle.rules.specs.declared.Header.{Header}
+use Rattle.runs.specs.Machine.{Machine, machineOf}
+use Rattle.runs.specs.Steps.{Step}
+
+-- a sound table of the right shape is the machine of its words and its chain
+pub record Shows (l r : List ℕ) (hd : Header) (m : Machine) : Type 0 where
+  pub shaped : shapeNumber l r hd ≡ 0
+  pub sound : Sound l hd
+  pub same : machineOf l r hd (sound .circle .after) ≡ m
+
+-- the call answers what the step answers, and leaves a sound table of the right shape that is the machine the step leaves
+pub record Does (o : Outcome) (s : Step) : Type 0 where
+  pub answer : o .answer ≡ s .answer
+  pub row : o .row ≡ s .row
+  pub shows : Shows (o .links) (o .rows) (o .header) (s .machine)
