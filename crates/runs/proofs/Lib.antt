@@ -9,3 +9,7 @@ pub mod Filled
 pub mod Grown
 pub mod Linked
 pub mod Sound
+pub mod Tests
+pub mod Backs
+pub mod Chains
+pub mod Followed
