@@ -13,3 +13,4 @@ pub mod Tests
 pub mod Backs
 pub mod Chains
 pub mod Followed
+pub mod Shown

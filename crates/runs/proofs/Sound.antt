@@ -28,11 +28,11 @@ module _ (l : List ℕ) (used : ℕ) where
     , subst (λ (y : ℕ). prevAt l used y ≡ a) (f .0) (u a (omega (arith, alike-same a a refl)))
     , there-and-back x after b (f .1) (λ i h. u i (omega arith)))
 
-  there : (a : ℕ) (after : List ℕ) (b : ℕ) → Seg (nextAt l used) (prevAt l used) a after b → Follows l used a after b
+  pub there : (a : ℕ) (after : List ℕ) (b : ℕ) → Seg (nextAt l used) (prevAt l used) a after b → Follows l used a after b
   there a [] b s = s .0
   there a (x ∷ after) b s = (s .0, there x after b (s .2))
 
-  and-back : (a : ℕ) (after : List ℕ) (b : ℕ) → Seg (nextAt l used) (prevAt l used) a after b →
+  pub and-back : (a : ℕ) (after : List ℕ) (b : ℕ) → Seg (nextAt l used) (prevAt l used) a after b →
     (i : ℕ) → 1 ≤ times i (a ∷ after) → prevAt l used (nextAt l used i) ≡ i
   and-back a [] b s i h = go (ℕ-discrete i a)
     where
@@ -59,7 +59,7 @@ module _ (l : List ℕ) (hd : Header) where
     ; ends = λ f b r. (s .ends .back f b r, s .ends .front f b r)
     }
 
-  pub sound : (after : List ℕ) → LinkedTable l (hd .used) after → hd .live ≡ oddCount (versionAt l (hd .used)) (hd .used) → Sound l hd
+  unfoldable pub sound : (after : List ℕ) → LinkedTable l (hd .used) after → hd .live ≡ oddCount (versionAt l (hd .used)) (hd .used) → Sound l hd
   sound after L c =
     record
     { zero-even = record { even = L .fronts .zero-even }
@@ -73,6 +73,11 @@ module _ (l : List ℕ) (hd : Header) where
       }
     ; ends = record { back = λ f b r. L .ends f b r .0; front = λ f b r. L .ends f b r .1 }
     }
+
+  pub sound-chain : (after : List ℕ) (L : LinkedTable l (hd .used) after) (c : hd .live ≡ oddCount (versionAt l (hd .used)) (hd .used)) →
+    sound after L c .circle .after ≡ after
+  unfolding sound
+  sound-chain after L c = refl
 
 -- two ways that agree on next, and meet their end only there, are one
 seg-unique : (n p : ℕ → ℕ) (a : ℕ) (l m : List ℕ) (b : ℕ) → Seg n p a l b → Seg n p a m b → times b l ≡ 0 → times b m ≡ 0 → l ≡ m

@@ -1,0 +1,82 @@
+-- A table that is a machine: what its entry tests answer, and how a call that is refused or goes through is a step. Assumes nothing.
+use mathlib.Core.Path.{_≡_, refl, sym, ap, _∙_, subst}
+use mathlib.Core.List.{List, [], _∷_, _++_}
+use mathlib.Core.Bool.{Bool, true, false}
+use Prim.Native.Nat.{ℕ, zero, suc, _+_, _-_, _/_, _≤_, _<_, _%_}
+use native.Mathlib.Omega.{arith}
+use lib.ListN.{length}
+use lib.Dec.{ltb, eqb}
+use borrow.Author.Tests.{eq-eqb, ne-eqb, le-ltb, eqb-true, eqb-false}
+use Rattle.rules.specs.Choice.{pick}
+use Rattle.rules.specs.Words.{lentOf, linkWords, versionAt, isOdd}
+use Rattle.rules.specs.Values.{Outcome, Values, plain, refused, refusal, unless}
+use Rattle.rules.specs.Refusals.{_▸_, passes, damaged, lentNumber, headerNumber, shapeNumber, sideNumber, zeroNumber, entryNumber, sideEntryNumber}
+use Rattle.rules.specs.Runs.{oddCount}
+use Rattle.rules.specs.Sound.{Sound}
+use Rattle.rules.specs.declared.Header.{Header}
+use Rattle.rules.proofs.Choice.{by-test}
+use Rattle.rules.proofs.Refusals.{passed}
+use Rattle.rules.proofs.Shape.{Shaped, shaped}
+use Rattle.runs.specs.Machine.{Machine, machineOf, headerOf}
+use Rattle.runs.specs.Steps.{Step, stays, stepUnless}
+use Rattle.runs.specs.Tables.{Shows, Does}
+use Rattle.runs.proofs.Counts.{odd-but-one}
+use Rattle.runs.proofs.Linked.{Linked}
+use Rattle.runs.proofs.Sound.{LinkedTable, linked, sound, sound-chain, one-chain}
+
+-- a test of a chain that does not hold leaves the number
+pub skipped : (n : ℕ) (t : Bool) (k : ℕ) → t ≡ false → (n ▸ (t, k)) ≡ n
+unfolding _▸_
+skipped n t k e =
+  simp e (by-test (λ (b : Bool). eqb n 0 ≡ b → pick b 0 n ≡ n) (eqb n 0) (λ z q. sym (eqb-true n 0 z)) (λ _ q. refl) refl)
+
+module _ (l r : List ℕ) (hd : Header) (shape : shapeNumber l r hd ≡ 0) (even : versionAt l (hd .used) 0 % 2 ≡ 0) where
+  not-odd : isOdd (versionAt l (hd .used) 0) ≡ false
+  not-odd = ne-eqb (versionAt l (hd .used) 0 % 2) 1 (λ t. omega arith)
+
+  pub entry-passes : entryNumber l r hd ≡ 0
+  unfolding entryNumber zeroNumber
+  entry-passes = skipped (shapeNumber l r hd) (isOdd (versionAt l (hd .used) 0)) damaged not-odd ∙ shape
+
+  pub side-alone : (side asked : ℕ) → sideEntryNumber l r hd side asked ≡ sideNumber passes side asked
+  unfolding sideEntryNumber zeroNumber
+  side-alone side asked =
+    skipped (sideNumber (shapeNumber l r hd) side asked) (isOdd (versionAt l (hd .used) 0)) damaged not-odd
+    ∙ ap (λ (n : ℕ). sideNumber n side asked) shape
+
+-- what is lent keeps its shape under any header that fits it
+pub still-shaped : (l r l′ r′ : List ℕ) (hd hd′ : Header) → shapeNumber l r hd ≡ 0 → length l′ ≡ length l → length r′ ≡ length r →
+  1 ≤ hd′ .used → hd′ .used ≤ lentOf l → hd′ .live < hd′ .used → shapeNumber l′ r′ hd′ ≡ 0
+unfolding shapeNumber headerNumber
+still-shaped l r l′ r′ hd hd′ e a b p q s =
+  let e₃ = passed _ _ _ (omega arith) e in
+  let e₂ = passed _ _ _ (omega arith) (e₃ .0) in
+  let e₁ = passed _ _ _ (omega arith) (e₂ .0) in
+  skipped _ _ _ (le-ltb (hd′ .used - 1) (hd′ .live) (omega arith))
+  ∙ skipped _ _ _ (ap (λ (n : ℕ). ltb (n / linkWords) (hd′ .used)) a ∙ le-ltb _ _ q)
+  ∙ skipped _ _ _ (ne-eqb (hd′ .used) 0 (λ t. omega arith))
+  ∙ ap (λ (n : ℕ). lentNumber n (length r′)) a ∙ ap (lentNumber (length l)) b ∙ e₁ .0
+
+-- a table of the right shape with its chain known, and the machine that it is
+module _ (l r : List ℕ) (hd : Header) where
+  pub shows : (after : List ℕ) → shapeNumber l r hd ≡ 0 → LinkedTable l (hd .used) after →
+    hd .live ≡ oddCount (versionAt l (hd .used)) (hd .used) → Shows l r hd (machineOf l r hd after)
+  shows after e L c = record { shaped = e; sound = sound l hd after L c; same = ap (machineOf l r hd) (sound-chain l hd after L c) }
+
+  -- one table is one machine
+  pub one-machine : (m m′ : Machine) → Shows l r hd m → Shows l r hd m′ → m ≡ m′
+  one-machine m m′ s t = sym (s .same) ∙ ap (machineOf l r hd) (one-chain l hd (s .sound) (t .sound)) ∙ t .same
+
+  -- its header is the machine's
+  pub header-is : (m : Machine) → Shows l r hd m → hd ≡ headerOf m
+  header-is m s = ap (λ (x : ℕ). record { used = hd .used; live = x }) (s .sound .live-count .counted) ∙ ap headerOf (s .same)
+
+  -- a call that its number turns down, and one that goes through
+  pub unless-does : (m : Machine) → Shows l r hd m → (n n′ : ℕ) → n ≡ n′ → (o : Outcome) (s : Step) → (n′ ≡ 0 → Does o s) →
+    Does (unless l r hd n o) (stepUnless m n′ s)
+  unfolding unless
+  unless-does m sh n n′ e o s h =
+    subst (λ (k : ℕ). Does (pick (eqb k 0) o (refusal l r hd k)) (stepUnless m n′ s)) (sym e)
+      (by-test (λ (t : Bool). Does (pick t o (refusal l r hd n′)) (pick t s (stays m (refused n′)))) (eqb n′ 0)
+        (λ z. h (eqb-true n′ 0 z))
+        (λ _. record { answer = refl; row = refl; shows = sh }))
