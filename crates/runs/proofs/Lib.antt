@@ -14,3 +14,4 @@ pub mod Backs
 pub mod Chains
 pub mod Followed
 pub mod Shown
+pub mod Hopped

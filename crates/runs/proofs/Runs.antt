@@ -87,3 +87,7 @@ pub back-run : (v : ℕ → ℕ) (u b : ℕ) → b < u → v b % 2 ≡ 0 → (su
 back-run v u b l e q =
   let s = down v b e in
   (s .0, make-run (s .2) (s .1) (s .3) (l) (q))
+
+-- the slot after a run, where it is in use
+pub after-run : (v : ℕ → ℕ) (u f b : ℕ) → Run v u f b → b + 1 < u → v (b + 1) % 2 ≡ 1
+after-run v u f b r h = omega (arith, r .stops (omega arith), par v (b + 1) (suc b) (omega arith))

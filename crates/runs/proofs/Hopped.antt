@@ -1,0 +1,79 @@
+-- The hop step on a sound table is the machine's. Assumes nothing.
+use mathlib.Core.Path.{_≡_, refl, sym, ap, _∙_, subst}
+use mathlib.Core.List.{List, [], _∷_, _++_}
+use mathlib.Core.Bool.{Bool, true, false}
+use Prim.Native.Nat.{ℕ, zero, suc, _+_, _-_, _≤_, _<_, _%_}
+use native.Mathlib.Decide.{ℕ-discrete, decLe, decLt}
+use native.Mathlib.Omega.{arith}
+use lib.Dec.{leb, eqb}
+use borrow.Author.Tests.{eq-eqb, ne-eqb, le-leb, lt-leb}
+use Rattle.rules.specs.Choice.{pick}
+use Rattle.rules.specs.Words.{versionAt, otherEndAt, vacantAt, occupiedAt, vacantBy, occupiedBy}
+use Rattle.rules.specs.Values.{Values, plain, done, refused}
+use Rattle.rules.specs.Refusals.{damaged, staleCursor, shapeNumber}
+use Rattle.rules.specs.Runs.{Front, Run, pastFront}
+use Rattle.rules.specs.Hop.{visit, hopFrom, hopRule}
+use Rattle.rules.specs.declared.Header.{Header}
+use Rattle.rules.proofs.Choice.{by-test}
+use Rattle.rules.proofs.HopSteps.{at-end, at-occupied, inside-run, over-run}
+use Rattle.runs.specs.Machine.{Machine, machineOf, backOf}
+use Rattle.runs.specs.Steps.{stays, visitOn, hopOn}
+use Rattle.runs.specs.Tables.{Shows, Does}
+use Rattle.runs.proofs.Runs.{after-run}
+use Rattle.runs.proofs.Tests.{vacant-yes, vacant-is, occupied-yes, occupied-is, occupied-not, occupied-no, front-is}
+use Rattle.runs.proofs.Backs.{back-of, run-from}
+use Rattle.runs.proofs.Linked.{Linked}
+use Rattle.runs.proofs.Sound.{LinkedTable, linked}
+use Rattle.runs.proofs.Shown.{entry-passes, unless-does}
+
+module _ (l r : List ℕ) (hd : Header) (after : List ℕ) (L : LinkedTable l (hd .used) after) (c : ℕ) where
+  abbrev v : ℕ → ℕ
+  v = versionAt l (hd .used)
+
+  abbrev m : Machine
+  m = machineOf l r hd after
+
+  -- from the front of a run to the slot after its back
+  over : Front v (hd .used) c → pastFront v (hd .used) c ≡ false →
+    hopFrom l hd c ≡ hopOn m c
+  unfolding hopOn vacantAt occupiedAt
+  over f p = sym (over-run l hd c (backOf v (hd .used) c) back-is (vacant-yes v (hd .used) c (f .below) (f .vacant)) p back-vacant (run .ordered)) ∙ same (ℕ-discrete (backOf v (hd .used) c + 1) (hd .used))
+    where
+      run : Run v (hd .used) c (backOf v (hd .used) c)
+      run = run-from v (hd .used) c f
+      back-is : backOf v (hd .used) c ≡ otherEndAt l (hd .used) c
+      back-is = sym (L .ends c (backOf v (hd .used) c) run .0)
+      back-vacant : vacantBy v (hd .used) (backOf v (hd .used) c) ≡ true
+      back-vacant = vacant-yes v (hd .used) (backOf v (hd .used) c) (run .below) (run .vacant (backOf v (hd .used) c) (run .ordered) (omega arith))
+      same : Dec (backOf v (hd .used) c + 1 ≡ hd .used) →
+        pick (eqb (backOf v (hd .used) c + 1) (hd .used)) done
+          (pick (occupiedBy v (hd .used) (backOf v (hd .used) c + 1)) (visit l (hd .used) (backOf v (hd .used) c + 1)) (refused damaged))
+        ≡ hopOn m c
+      same (yes e) = simp (eq-eqb (backOf v (hd .used) c + 1) (hd .used) e, lt-leb (hd .used) c (f .below), occupied-no v (hd .used) c (f .vacant), p)
+      same (no n) = simp (ne-eqb (backOf v (hd .used) c + 1) (hd .used) n, lt-leb (hd .used) c (f .below), occupied-no v (hd .used) c (f .vacant), p, occupied-yes v (hd .used) (backOf v (hd .used) c + 1) (omega (arith, run .below)) (after-run v (hd .used) c (backOf v (hd .used) c) run (omega (arith, run .below))))
+
+  pub hop-is : hopFrom l hd c ≡ hopOn m c
+  unfolding hopOn vacantAt occupiedAt
+  hop-is = past (decLe (hd .used) c)
+    where
+      inside : c < hd .used → occupiedBy v (hd .used) c ≡ false → hopFrom l hd c ≡ hopOn m c
+      inside h o =
+        let e = occupied-not v (hd .used) c o h in
+        let w = vacant-yes v (hd .used) c h e in
+        by-test (λ (t : Bool). pastFront v (hd .used) c ≡ t → hopFrom l hd c ≡ hopOn m c) (pastFront v (hd .used) c)
+          (λ p _. sym (inside-run l hd c p) ∙ simp (lt-leb (hd .used) c h, o, p))
+          (λ p _. over (front-is v (hd .used) c w p) p) refl
+      below : c < hd .used → hopFrom l hd c ≡ hopOn m c
+      below h =
+        by-test (λ (t : Bool). occupiedBy v (hd .used) c ≡ t → hopFrom l hd c ≡ hopOn m c) (occupiedBy v (hd .used) c)
+          (λ o _. sym (at-occupied l hd c o) ∙ simp (lt-leb (hd .used) c h, o))
+          (λ o _. inside h o) refl
+      past : Dec (hd .used ≤ c) → hopFrom l hd c ≡ hopOn m c
+      past (yes h) = sym (at-end l hd c h) ∙ simp (le-leb (hd .used) c h)
+      past (no h) = below (omega arith)
+
+pub hop-does : (l r : List ℕ) (hd : Header) (m : Machine) → Shows l r hd m → (c : ℕ) → Does (hopRule l r hd c) (stays m (hopOn m c))
+unfolding hopRule
+hop-does l r hd m s c =
+  unless-does l r hd m s _ 0 (entry-passes l r hd (s .shaped) (s .sound .zero-even .even)) _ (stays m (hopOn m c))
+    (λ _. record { answer = hop-is l r hd _ (linked l hd (s .sound)) c ∙ ap (λ (x : Machine). hopOn x c) (s .same); row = refl; shows = s })
