@@ -15,3 +15,4 @@ pub mod Chains
 pub mod Followed
 pub mod Shown
 pub mod Hopped
+pub mod Struck
