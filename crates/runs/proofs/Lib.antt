@@ -16,3 +16,4 @@ pub mod Followed
 pub mod Shown
 pub mod Hopped
 pub mod Struck
+pub mod Drains
