@@ -1,4 +1,6 @@
 pub mod Points
+pub mod Words
+pub mod Rows
 pub mod Times
 pub mod Segments
 pub mod Runs
