@@ -19,3 +19,4 @@ pub mod Shown
 pub mod Hopped
 pub mod Struck
 pub mod Drains
+pub mod Freeing
