@@ -11,7 +11,7 @@ use Rattle.rules.specs.Words.{linkWords, versionAt, nextAt, prevAt, otherEndAt,
 use Rattle.rules.specs.Runs.{Front, Run}
 use Rattle.rules.specs.Remove.{beside, setApart, joinRight, joinLeft, joinBoth, freed}
 use Rattle.rules.specs.declared.steps.Beside.{Beside}
-use Rattle.rules.proofs.Choice.{by-test}
+use Rattle.rules.proofs.Choice.{by-test, by-pick}
 use Rattle.runs.specs.Points.{put}
 use Rattle.runs.specs.Machine.{renamed, without, frontsAfter}
 use Rattle.runs.proofs.Points.{alike-same, alike-other}
@@ -24,6 +24,32 @@ use Rattle.runs.proofs.Chains.{renamed-at, without-at}
 use Rattle.runs.proofs.Linked.{Linked, remove-neither, remove-right, remove-left, remove-both}
 use Rattle.runs.proofs.Followed.{remove-t, remove-right-links, remove-left-link}
 use Rattle.runs.proofs.Sound.{LinkedTable}
+
+-- no link that a removal writes is a version
+module _ (l : List ℕ) (u i : ℕ) (x : Beside) where
+  pub freed-versions : versionAt (freed l u i x) u ≡ versionAt l u
+  unfolding freed joinBoth joinLeft joinRight setApart
+  freed-versions =
+    by-pick (λ (t : List ℕ). versionAt t u ≡ versionAt l u) (x .before) _ _
+      (λ _. by-pick (λ (t : List ℕ). versionAt t u ≡ versionAt l u) (x .after) _ _ (λ _. simp words) (λ _. simp words))
+      (λ _. by-pick (λ (t : List ℕ). versionAt t u ≡ versionAt l u) (x .after) _ _ (λ _. simp words) (λ _. simp words))
+
+  pub freed-length : length (freed l u i x) ≡ length l
+  unfolding freed joinBoth joinLeft joinRight setApart
+  freed-length =
+    by-pick (λ (t : List ℕ). length t ≡ length l) (x .before) _ _
+      (λ _. by-pick (λ (t : List ℕ). length t ≡ length l) (x .after) _ _ (λ _. simp words) (λ _. simp words))
+      (λ _. by-pick (λ (t : List ℕ). length t ≡ length l) (x .after) _ _ (λ _. simp words) (λ _. simp words))
+
+-- the slots beside slot j + 1 as the rule has them
+abbrev pub near : List ℕ → ℕ → ℕ → Beside
+near l u j = record { left = j; right = suc (suc j); before = vacantAt l u j; after = vacantAt l u (suc (suc j)) }
+
+pub near-is : (l : List ℕ) (u j : ℕ) → beside l u (suc j) ≡ near l u j
+near-is l u j =
+  let a : suc j - 1 ≡ j = omega arith in
+  let b : suc j + 1 ≡ suc (suc j) = omega arith in
+  simp (a, b)
 
 -- slot i = j + 1, under its own names
 module _ (l : List ℕ) (u : ℕ) (after : List ℕ) (L : LinkedTable l u after) (fits : u * linkWords ≤ length l)
@@ -90,16 +116,13 @@ module _ (l : List ℕ) (u : ℕ) (after : List ℕ) (L : LinkedTable l u after)
         (remove-both v n p e u after L j w low odd ev (s .0) (s .1) (s .2) lo))
 
   -- whichever case it is
-  abbrev near : Beside
-  near = record { left = j; right = r; before = vacantAt l u j; after = vacantAt l u r }
-
   abbrev chainAfter : List ℕ
   chainAfter = pick (vacantBy v u j) (pick (vacantBy v u r) (without r after) after) (pick (vacantBy v u r) (renamed r i after) (after ++ i ∷ []))
 
   right-odd : vacantBy v u r ≡ false → r < u → v r % 2 ≡ 1
   right-odd t = vacant-not v u r t
 
-  near-linked : LinkedTable (setVersion (freed l u i near) i w) u chainAfter
+  near-linked : LinkedTable (setVersion (freed l u i (near l u j)) i w) u chainAfter
   unfolding freed vacantAt
   near-linked =
     by-test (λ (b : Bool). LinkedTable
@@ -114,13 +137,7 @@ module _ (l : List ℕ) (u : ℕ) (after : List ℕ) (L : LinkedTable l u after)
           (λ a. let ri = vacant-is v u r a in right-linked lo (ri .0) (ri .1))
           (λ a. apart-linked lo (right-odd a)))
 
-  -- and the neighbours named as the rule names them
-  near-is : beside l u i ≡ near
-  near-is =
-    let a : i - 1 ≡ j = omega arith in
-    let b : i + 1 ≡ r = omega arith in
-    simp (a, b)
-
+  -- and the chain named as the machine names it
   chain-is : frontsAfter v u after i ≡ chainAfter
   unfolding frontsAfter
   chain-is =
@@ -129,4 +146,4 @@ module _ (l : List ℕ) (u : ℕ) (after : List ℕ) (L : LinkedTable l u after)
     simp (a, b)
 
   pub freed-linked : LinkedTable (setVersion (freed l u i (beside l u i)) i w) u (frontsAfter v u after i)
-  freed-linked = rw (near-is, chain-is) near-linked
+  freed-linked = rw (near-is l u j, chain-is) near-linked

@@ -20,3 +20,4 @@ pub mod Hopped
 pub mod Struck
 pub mod Drains
 pub mod Freeing
+pub mod Removed

@@ -14,6 +14,10 @@ pub both-no : (a : Bool) → both a false ≡ false
 both-no true = refl
 both-no false = refl
 
+pub both-if : (a b : Bool) → (a ≡ true → b ≡ false) → both a b ≡ false
+both-if true b h = h refl
+both-if false b h = refl
+
 module _ (v : ℕ → ℕ) (u i : ℕ) where
   pub vacant-yes : i < u → v i % 2 ≡ 0 → vacantBy v u i ≡ true
   vacant-yes h e = simp (lt-ltb i u h, eq-eqb (v i % 2) 0 e)
