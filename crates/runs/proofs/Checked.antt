@@ -23,7 +23,7 @@ use Rattle.runs.proofs.Times.{times-each}
 use Rattle.runs.proofs.Segments.{Seg}
 use Rattle.runs.proofs.Fronts.{Ended}
 use Rattle.runs.proofs.Sound.{LinkedTable, linked, sound, off-zero}
-use Rattle.runs.proofs.Tests.{is-true, is-false, test-all, all-test, test-front, front-test, run-front, test-run, run-test}
+use Rattle.runs.proofs.RunTests.{is-true, is-false, test-all, all-test, test-front, front-test, run-front, test-run, run-test}
 use Rattle.runs.proofs.Circles.{fronts-length, meets-all}
 
 -- from slot x next comes to 0 in n steps and no sooner, over fronts alone, and prev undoes each step

@@ -15,7 +15,7 @@ use Rattle.runs.proofs.Segments.{Seg, seg-split}
 use Rattle.runs.proofs.Fronts.{Fronts, fronts-once, same-times}
 use Rattle.runs.proofs.Counts.{count-more, count-none-yet}
 use Rattle.runs.proofs.Sound.{seg-unique}
-use Rattle.runs.proofs.Tests.{test-front, front-test}
+use Rattle.runs.proofs.RunTests.{test-front, front-test}
 
 -- a way that meets its end only there has nothing twice: from a second meeting on it would be as long as from the first
 pub seg-once : (n p : ℕ → ℕ) (a : ℕ) (l : List ℕ) (b : ℕ) → Seg n p a l b → times b l ≡ 0 → (k : ℕ) → times k l ≤ 1

@@ -9,6 +9,6 @@ pub mod Filled
 pub mod Grown
 pub mod Linked
 pub mod Sound
-pub mod Tests
+pub mod RunTests
 pub mod Circles
 pub mod Checked
