@@ -1,4 +1,5 @@
--- How many of the first slots are occupied. Assumes nothing.
+-- Counting below a bound, one number at a time; how many of the first slots are occupied. Assumes nothing.
+use mathlib.Core.Bool.{Bool}
 use mathlib.Core.Path.{_≡_, refl, sym, ap, _∙_, subst}
 use mathlib.Core.Logic.{_≢_}
 use Prim.Native.Nat.{ℕ, zero, suc, _+_, _-_, _≤_, _<_, _%_}
@@ -9,6 +10,14 @@ use Rattle.rules.specs.Choice.{one-if, countBelow}
 use Rattle.rules.specs.Words.{isOdd}
 use Rattle.rules.specs.Runs.{oddCount}
 
+pub count-more : (t : ℕ → Bool) (n : ℕ) → countBelow (suc n) t ≡ countBelow n t + one-if (t n)
+unfolding countBelow
+count-more t n = refl
+
+pub count-none-yet : (t : ℕ → Bool) → countBelow 0 t ≡ 0
+unfolding countBelow
+count-none-yet t = refl
+
 odd-bit : (x : ℕ) → one-if (isOdd x) ≡ x % 2
 odd-bit x = go (ℕ-discrete (x % 2) 1)
   where
@@ -17,12 +26,10 @@ odd-bit x = go (ℕ-discrete (x % 2) 1)
     go (no n) = simp (ne-eqb (x % 2) 1 n) (omega arith)
 
 pub odd-more : (v : ℕ → ℕ) (n : ℕ) → oddCount v (suc n) ≡ oddCount v n + v n % 2
-unfolding countBelow
-odd-more v n = ap (λ (x : ℕ). countBelow n (λ i. isOdd (v i)) + x) (odd-bit (v n))
+odd-more v n = omega (arith, count-more (λ i. isOdd (v i)) n, odd-bit (v n))
 
 pub odd-none-yet : (v : ℕ → ℕ) → oddCount v 0 ≡ 0
-unfolding countBelow
-odd-none-yet v = refl
+odd-none-yet v = count-none-yet (λ i. isOdd (v i))
 
 pub odd-most : (v : ℕ → ℕ) (n : ℕ) → oddCount v n ≤ n
 odd-most v zero = omega (arith, odd-none-yet v)

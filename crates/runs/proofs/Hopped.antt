@@ -20,7 +20,8 @@ use Rattle.runs.specs.Machine.{Machine, machineOf, backOf}
 use Rattle.runs.specs.Steps.{stays, visitOn, hopOn}
 use Rattle.runs.specs.Tables.{Shows, Does}
 use Rattle.runs.proofs.Runs.{after-run}
-use Rattle.runs.proofs.Tests.{vacant-yes, vacant-is, occupied-yes, occupied-is, occupied-not, occupied-no, front-is}
+use Rattle.runs.proofs.Tests.{vacant-yes, vacant-is, occupied-yes, occupied-is, occupied-not, occupied-no}
+use Rattle.runs.proofs.RunTests.{front-is}
 use Rattle.runs.proofs.Backs.{back-of, run-from}
 use Rattle.runs.proofs.Linked.{Linked}
 use Rattle.runs.proofs.Sound.{LinkedTable, linked}

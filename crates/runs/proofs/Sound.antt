@@ -80,7 +80,7 @@ module _ (l : List ℕ) (hd : Header) where
   sound-chain after L c = refl
 
 -- two ways that agree on next, and meet their end only there, are one
-seg-unique : (n p : ℕ → ℕ) (a : ℕ) (l m : List ℕ) (b : ℕ) → Seg n p a l b → Seg n p a m b → times b l ≡ 0 → times b m ≡ 0 → l ≡ m
+pub seg-unique : (n p : ℕ → ℕ) (a : ℕ) (l m : List ℕ) (b : ℕ) → Seg n p a l b → Seg n p a m b → times b l ≡ 0 → times b m ≡ 0 → l ≡ m
 seg-unique n p a [] [] b s t h k = refl
 seg-unique n p a [] (y ∷ m) b s t h k = absurd (omega (arith, alike-same b y (sym (s .0) ∙ t .0)))
 seg-unique n p a (x ∷ l) [] b s t h k = absurd (omega (arith, alike-same b x (sym (t .0) ∙ s .0)))
