@@ -8,10 +8,10 @@ use lib.ListN.{length}
 use lib.Dec.{ltb, eqb}
 use borrow.Author.Tests.{eq-eqb, ne-eqb, le-ltb, lt-ltb, eqb-true, ltb-true, not-true, not-false}
 use Rattle.rules.specs.Choice.{pick, both}
-use Rattle.rules.specs.Words.{linkWords, rowWords, lentOf, versionAt, nextAt, prevAt, otherEndAt, setVersion, zeroRow, rowAt, setRow, rise, vacantBy, vacantAt, occupiedBy, occupiedAt, keyAt}
+use Rattle.rules.specs.Words.{linkWords, rowWords, lentOf, versionAt, nextAt, prevAt, otherEndAt, setVersion, zeroRow, rowAt, setRow, isOdd, rise, vacantBy, vacantAt, occupiedBy, occupiedAt, keyAt}
 use Rattle.rules.specs.Headers.{oneLess}
 use Rattle.rules.specs.Values.{Outcome, plain, keyed, unless}
-use Rattle.rules.specs.Refusals.{astray, passes, shapeNumber, liveKey, liveNumber, _▸_}
+use Rattle.rules.specs.Refusals.{astray, passes, shapeNumber, liveBy, liveKey, liveNumber, _▸_}
 use Rattle.rules.specs.Access.{keyNumber}
 use Rattle.rules.specs.Runs.{Front, Run, oddCount}
 use Rattle.rules.specs.Remove.{beside, apartNumber, leftNumber, rightNumber, removeNumber, freed as freedLinks, removeStep, removeBy, removeSlot, removeAt, removeRule}
@@ -19,10 +19,11 @@ use Rattle.rules.specs.declared.Header.{Header}
 use Rattle.rules.specs.declared.Key.{Key}
 use Rattle.rules.specs.declared.steps.Beside.{Beside}
 use Rattle.rules.proofs.Choice.{by-test, both-true}
+use Rattle.rules.proofs.Refusals.{passed}
 use Rattle.rules.proofs.Shape.{shaped}
 use Rattle.rules.proofs.RemoveSteps.{removed-slot}
 use Rattle.runs.specs.Points.{put}
-use Rattle.runs.specs.Machine.{Machine, machineOf, frontsAfter}
+use Rattle.runs.specs.Machine.{Machine, keyOf, machineOf, frontsAfter}
 use Rattle.runs.specs.Steps.{keyNumberOn, freed, takenOut, removeOn}
 use Rattle.runs.specs.Tables.{Shows, Does}
 use Rattle.runs.proofs.Points.{put-same, put-other}
@@ -145,3 +146,67 @@ module _ (l r : List ℕ) (hd : Header) (shape : shapeNumber l r hd ≡ 0) (afte
     machine-after : machineOf l′ r′ (oneLess hd) (frontsAfter (versionAt l (hd .used)) (hd .used) after i) ≡ freed (machineOf l r hd after) i
     unfolding freed
     machine-after = cc (versions-after, rows-after, length-after)
+
+    freed-does : (y : ℕ) → Does (removeSlot l r hd (record { index = i; version = y })) (takenOut (machineOf l r hd after) (record { index = i; version = y }))
+    unfolding removeSlot removeBy unless removeStep
+    freed-does y =
+      simp (removal-passes l hd after L fits counted j low odd)
+        (record
+        { answer = refl
+        ; row = refl
+        ; shows = subst (Shows l′ r′ (oneLess hd)) machine-after
+            (shows l′ r′ (oneLess hd) (frontsAfter (versionAt l (hd .used)) (hd .used) after i) shape-after
+              (freed-linked l (hd .used) after L fits j w low odd (rise-even (versionAt l (hd .used) i) odd)) count-after)
+        })
+
+  removal-is : (k : Key) → k .index < hd .used → versionAt l (hd .used) (k .index) % 2 ≡ 1 → Does (removeSlot l r hd k) (takenOut (machineOf l r hd after) k)
+  removal-is k low odd = at (k .index) low odd (k .version)
+    where
+      at : (i : ℕ) → i < hd .used → versionAt l (hd .used) i % 2 ≡ 1 → (y : ℕ) →
+        Does (removeSlot l r hd (record { index = i; version = y })) (takenOut (machineOf l r hd after) (record { index = i; version = y }))
+      at zero low odd y = absurd (omega (arith, L .fronts .zero-even))
+      at (suc j) low odd y = freed-does j low odd y
+
+-- a key that is not turned down is live, and its slot occupied
+pub key-live : (n : ℕ) (m : Machine) (k : Key) → keyNumberOn n m k ≡ 0 → (n ≡ 0) × (liveBy (m .versions) (m .used) k ≡ true)
+unfolding keyNumberOn
+key-live n m k e =
+  let e₂ = passed _ _ _ (omega arith) e in
+  let e₁ = passed _ _ _ (omega arith) (e₂ .0) in
+  (e₁ .0, not-false _ (e₂ .1))
+
+pub live-occupied : (m : Machine) (k : Key) → liveBy (m .versions) (m .used) k ≡ true → occupiedBy (m .versions) (m .used) (k .index) ≡ true
+live-occupied m k e =
+  let a = both-true (ltb (k .index) (m .used)) _ e in
+  let b = both-true (isOdd (k .version)) _ (a .1) in
+  let c : m .versions (k .index) ≡ k .version = eqb-true _ _ (b .1) in
+  simp (a .0, c, b .0)
+
+module _ (l r : List ℕ) (hd : Header) (m : Machine) (s : Shows l r hd m) where
+  pub removal-does : (k : Key) → occupiedBy (m .versions) (m .used) (k .index) ≡ true → Does (removeSlot l r hd k) (takenOut m k)
+  removal-does k e =
+    subst (λ (x : Machine). occupiedBy (x .versions) (x .used) (k .index) ≡ true → Does (removeSlot l r hd k) (takenOut x k)) (s .same)
+      (λ e. let o = occupied-is (versionAt l (hd .used)) (hd .used) (k .index) e in
+        removal-is l r hd (s .shaped) (s .sound .circle .after) (linked l hd (s .sound)) (s .sound .live-count .counted) k (o .0) (o .1)) e
+
+  -- the removal of a slot under the key that it has
+  pub remove-at-does : (q : ℕ) → occupiedBy (m .versions) (m .used) q ≡ true → Does (removeAt l r hd q) (takenOut m (keyOf m q))
+  unfolding occupiedAt
+  remove-at-does q e =
+    let o : occupiedBy (versionAt l (hd .used)) (hd .used) q ≡ true = ap (λ (x : Machine). occupiedBy (x .versions) (x .used) q) (s .same) ∙ e in
+    subst (λ (x : Outcome). Does x (takenOut m (keyOf m q))) (sym (removed-slot l r hd q o))
+      (subst (λ (x : ℕ). Does (removeSlot l r hd (record { index = q; version = x })) (takenOut m (keyOf m q)))
+        (ap (λ (x : Machine). x .versions q) (sym (s .same))) (removal-does (keyOf m q) e))
+
+  -- the number of a key
+  pub key-number-is : (k : Key) → keyNumber l r hd k ≡ keyNumberOn passes m k
+  unfolding keyNumber liveNumber liveKey keyNumberOn
+  key-number-is k =
+    ap (λ (n : ℕ). liveNumber n l hd k) (entry-passes l r hd (s .shaped) (s .sound .zero-even .even))
+    ∙ ap (λ (x : Machine). keyNumberOn passes x k) (s .same)
+
+  pub remove-does : (k : Key) → Does (removeRule l r hd k) (removeOn m k)
+  unfolding removeRule removeOn
+  remove-does k =
+    unless-does l r hd m s (keyNumber l r hd k) (keyNumberOn passes m k) (key-number-is k) (removeSlot l r hd k) (takenOut m k)
+      (λ e. removal-does k (live-occupied m k (key-live passes m k e .1)))
