@@ -24,3 +24,4 @@ pub mod Removed
 pub mod Hopped
 pub mod Struck
 pub mod Drains
+pub mod Filling
