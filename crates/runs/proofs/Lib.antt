@@ -25,3 +25,4 @@ pub mod Hopped
 pub mod Struck
 pub mod Drains
 pub mod Filling
+pub mod Inserted
