@@ -26,3 +26,4 @@ pub mod Struck
 pub mod Drains
 pub mod Filling
 pub mod Inserted
+pub mod Drained
