@@ -17,4 +17,8 @@ pub mod NeverRead
 pub mod InsertReads
 pub mod RemoveReads
 pub mod HopReads
+pub mod Steady
+pub mod CheckReads
+pub mod ClearReads
+pub mod RetainReads
 mod Bench

@@ -1,0 +1,22 @@
+-- Clear never reads a slot from used upward, nor writes one: it is the drain step over and over. Assumes nothing.
+use Prim.Native.Nat.{ℕ, zero, suc, _+_}
+use mathlib.Core.List.{List}
+use mathlib.Core.Path.{_≡_, refl}
+use Rattle.rules.specs.Values.{Outcome, done}
+use Rattle.rules.specs.Drain.{drainRule}
+use Rattle.rules.specs.Clear.{drainTimes, clearRule}
+use Rattle.rules.specs.NeverRead.{NeverReads}
+use Rattle.rules.specs.declared.Header.{Header}
+use Rattle.rules.proofs.RemoveReads.{drain-never-reads, drain-used}
+use Rattle.rules.proofs.Steady.{Steady, none-steady, then-steady, rule-steady, steps-never-read}
+use Rattle.rules.proofs.CheckReads.{entry-sound-never-reads}
+
+drains-steady : (m n : ℕ) → Steady m (drainTimes n)
+unfolding drainTimes
+drains-steady m zero = none-steady m
+drains-steady m (suc n) = then-steady (rule-steady drainRule drain-never-reads drain-used m) (drains-steady m n)
+
+pub clear-never-reads : (hd : Header) → NeverReads (hd .used) (λ l r. clearRule l r hd)
+unfolding clearRule
+clear-never-reads hd =
+    steps-never-read hd done _ (entry-sound-never-reads hd) (drainTimes (hd .live + 1)) (drains-steady (hd .used) (hd .live + 1))
