@@ -1,8 +1,6 @@
 -- Clear never reads a slot from used upward, nor writes one: it is the drain step over and over. Assumes nothing.
 use Prim.Native.Nat.{ℕ, zero, suc, _+_}
-use mathlib.Core.List.{List}
-use mathlib.Core.Path.{_≡_, refl}
-use Rattle.rules.specs.Values.{Outcome, done}
+use Rattle.rules.specs.Values.{done}
 use Rattle.rules.specs.Drain.{drainRule}
 use Rattle.rules.specs.Clear.{drainTimes, clearRule}
 use Rattle.rules.specs.NeverRead.{NeverReads}

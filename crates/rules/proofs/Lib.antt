@@ -21,4 +21,5 @@ pub mod Steady
 pub mod CheckReads
 pub mod ClearReads
 pub mod RetainReads
+pub mod RebuildReads
 mod Bench
