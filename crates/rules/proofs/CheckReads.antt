@@ -40,4 +40,4 @@ entry-sound-never-reads hd = sound-number-never-reads hd _ (record { alike = λ 
 
 pub check-never-reads : (hd : Header) → NeverReads (hd .used) (λ l r. checkRule l r hd)
 unfolding checkRule
-check-never-reads hd = steps-never-read hd done _ (entry-sound-never-reads hd) (λ o. o) (none-steady (hd .used))
+check-never-reads hd = steps-never-read hd done _ (entry-sound-never-reads hd) (λ o. o) none-steady

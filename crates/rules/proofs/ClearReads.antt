@@ -9,12 +9,11 @@ use Rattle.rules.proofs.RemoveReads.{drain-never-reads, drain-used}
 use Rattle.rules.proofs.Steady.{Steady, none-steady, then-steady, rule-steady, steps-never-read}
 use Rattle.rules.proofs.CheckReads.{entry-sound-never-reads}
 
-drains-steady : (m n : ℕ) → Steady m (drainTimes n)
+drains-steady : (n : ℕ) → Steady (drainTimes n)
 unfolding drainTimes
-drains-steady m zero = none-steady m
-drains-steady m (suc n) = then-steady (rule-steady drainRule drain-never-reads drain-used m) (drains-steady m n)
+drains-steady zero = none-steady
+drains-steady (suc n) = then-steady (rule-steady drainRule drain-never-reads drain-used) (drains-steady n)
 
 pub clear-never-reads : (hd : Header) → NeverReads (hd .used) (λ l r. clearRule l r hd)
 unfolding clearRule
-clear-never-reads hd =
-    steps-never-read hd done _ (entry-sound-never-reads hd) (drainTimes (hd .live + 1)) (drains-steady (hd .used) (hd .live + 1))
+clear-never-reads hd = steps-never-read hd done _ (entry-sound-never-reads hd) _ (drains-steady (hd .live + 1))
