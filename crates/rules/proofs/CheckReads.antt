@@ -2,11 +2,11 @@
 use Prim.Native.Nat.{ℕ, zero, suc, _*_}
 use mathlib.Core.List.{List}
 use mathlib.Core.Path.{_≡_, refl}
+use Rattle.rules.specs.Words.{linkWords}
 use Rattle.rules.specs.Values.{done}
 use Rattle.rules.specs.Refusals.{entryNumber}
 use Rattle.rules.specs.Check.{endsTest, circleTest, soundTest, soundNumber, checkRule}
 use Rattle.rules.specs.NeverRead.{AgreeTo, NeverReads, AnswersAlike}
-use Rattle.rules.specs.Words.{linkWords}
 use Rattle.rules.specs.declared.Header.{Header}
 use Rattle.rules.proofs.Agree.{same-link, same-versions}
 use Rattle.rules.proofs.NeverRead.{same-entry}

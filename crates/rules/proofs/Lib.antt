@@ -14,10 +14,10 @@ pub mod Rows
 pub mod Agree
 pub mod Kept
 pub mod NeverRead
+pub mod Steady
 pub mod InsertReads
 pub mod RemoveReads
 pub mod HopReads
-pub mod Steady
 pub mod CheckReads
 pub mod ClearReads
 pub mod RetainReads
