@@ -3,7 +3,7 @@
 use Prim.Native.Nat.{ℕ, zero, suc, _+_, _*_, _≤_, _<_}
 use mathlib.Core.List.{List, [], _∷_, _++_}
 use mathlib.Core.Bool.{true}
-use mathlib.Core.Path.{_≡_, refl, sym, ap, subst, _∙_}
+use mathlib.Core.Path.{_≡_, refl, sym, ap, subst, fun-ext, _∙_}
 use native.Mathlib.Decide.{decLt}
 use native.Mathlib.Omega.{arith}
 use lib.ListN.{length, getD, set, take, drop, length-set}
@@ -11,7 +11,7 @@ use lib.Seq.{getD-take, take-set-lt, take-set-le, take-suc-set, take-all, take-t
 use lib.Dec.{ltb, leb, eqb}
 use borrow.Author.Tests.{ltb-true, leb-true, eqb-true}
 use Rattle.rules.specs.Choice.{pick, both}
-use Rattle.rules.specs.Words.{linkWords, rowWords, versionWord, nextWord, prevWord, otherEndWord, linkAt, setLink, newSlot, rowWithin, rowAt, setRow, zeroRow}
+use Rattle.rules.specs.Words.{linkWords, rowWords, versionWord, nextWord, prevWord, otherEndWord, linkAt, versionAt, setLink, newSlot, rowWithin, rowAt, setRow, zeroRow}
 use Rattle.rules.specs.NeverRead.{AgreeTo}
 use Rattle.rules.proofs.Choice.{by-picks, both-true}
 use Rattle.rules.proofs.Rows.{set-row}
@@ -79,6 +79,10 @@ module _ (m : ℕ) (l l′ : List ℕ) (g : AgreeTo (m * linkWords) l l′) wher
       let within = ltb-true w linkWords h in
       same-word (m * linkWords) l l′ g (i * linkWords + w) (omega arith))
       (λ _. refl)
+
+  -- the versions as a function of the slot, as runs are told by them
+  pub same-versions : versionAt l m ≡ versionAt l′ m
+  same-versions = fun-ext (λ i. same-link i versionWord refl)
 
 pub link-agrees : (n : ℕ) (l l′ : List ℕ) → AgreeTo n l l′ → (i w x : ℕ) → AgreeTo n (setLink l i w x) (setLink l′ i w x)
 unfolding setLink

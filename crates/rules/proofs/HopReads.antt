@@ -1,21 +1,14 @@
 -- The hop step never reads a slot from used upward, and writes none. Assumes nothing.
 use Prim.Native.Nat.{ℕ}
-use mathlib.Core.Path.{_≡_, refl}
+use mathlib.Core.Path.{refl}
 use Rattle.rules.specs.Words.{vacantAt, occupiedAt}
 use Rattle.rules.specs.Runs.{pastFront}
 use Rattle.rules.specs.Hop.{hopNumber, hopAnswer, hopFrom, hopRule}
-use Rattle.rules.specs.Values.{Kind, gives, ends, refuses}
-use Rattle.rules.specs.NeverRead.{reach, NeverReads}
+use Rattle.rules.specs.NeverRead.{NeverReads}
 use Rattle.rules.specs.declared.Header.{Header}
 use Rattle.rules.proofs.Agree.{same-link}
 use Rattle.rules.proofs.Kept.{unless-kept}
-use Rattle.rules.proofs.NeverRead.{plain-alike, unless-alike, same-entry}
-
--- where used stays, the tables are known as far after a refusal as after any answer
-reach-same : (k : Kind) (m : ℕ) → reach k m m ≡ m
-reach-same gives m = refl
-reach-same ends m = refl
-reach-same refuses m = refl
+use Rattle.rules.proofs.NeverRead.{reach-same, plain-alike, unless-alike, same-entry}
 
 pub hop-never-reads : (hd : Header) (c : ℕ) → NeverReads (hd .used) (λ l r. hopRule l r hd c)
 unfolding hopRule hopFrom hopNumber hopAnswer pastFront vacantAt occupiedAt

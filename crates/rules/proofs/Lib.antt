@@ -14,7 +14,12 @@ pub mod Rows
 pub mod Agree
 pub mod Kept
 pub mod NeverRead
+pub mod Steady
 pub mod InsertReads
 pub mod RemoveReads
 pub mod HopReads
+pub mod CheckReads
+pub mod ClearReads
+pub mod RetainReads
+pub mod RebuildReads
 mod Bench

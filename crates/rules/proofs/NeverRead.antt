@@ -9,7 +9,7 @@ use lib.Dec.{eqb}
 use borrow.Author.Tests.{eqb-true}
 use Rattle.rules.specs.Words.{rowWords, zeroRow}
 use Rattle.rules.specs.Headers.{fresh}
-use Rattle.rules.specs.Values.{Values, Outcome, plain, unless}
+use Rattle.rules.specs.Values.{Kind, gives, ends, refuses, Values, Outcome, plain, unless}
 use Rattle.rules.specs.Refusals.{shapeNumber, sideNumber, zeroNumber, liveKey, liveNumber, entryNumber, sideEntryNumber}
 use Rattle.rules.specs.Start.{startRule, roomRule}
 use Rattle.rules.specs.Access.{keyNumber, lookRule, lookStart, replaceNumber, replaceRule}
@@ -20,6 +20,12 @@ use Rattle.rules.proofs.Choice.{by-picks}
 use Rattle.rules.proofs.Agree.{same-link, same-row, row-agrees, slot-filled, row-filled}
 use Rattle.rules.proofs.Kept.{slot-kept, row-kept, unless-kept}
 use Rattle.rules.proofs.Shape.{lent, held}
+
+-- where used stays, the tables are known as far after a refusal as after any answer
+pub reach-same : (k : Kind) (m : ℕ) → reach k m m ≡ m
+reach-same gives m = refl
+reach-same ends m = refl
+reach-same refuses m = refl
 
 -- no row by value: one answer, one header, and tables that agree
 pub plain-alike : {m : ℕ} {v v′ : Values} {l l′ r r′ : List ℕ} (hd : Header) → v ≡ v′ →

@@ -1,11 +1,12 @@
 -- Remove and the drain step never read a slot from used upward, nor write one. Both come down to the removal of a slot in use.
 -- Assumes nothing.
-use Prim.Native.Nat.{ℕ, _*_, _<_}
+use Prim.Native.Nat.{ℕ, _+_, _*_, _<_}
 use mathlib.Core.List.{List}
-use mathlib.Core.Path.{refl}
+use mathlib.Core.Path.{_≡_, refl}
 use native.Mathlib.Omega.{arith}
 use lib.Dec.{eqb}
-use Rattle.rules.specs.Words.{linkWords, zeroRow, vacantAt, occupiedAt}
+use Rattle.rules.specs.Words.{linkWords, otherEndAt, zeroRow, vacantAt, occupiedAt}
+use Rattle.rules.specs.Values.{Outcome}
 use Rattle.rules.specs.Access.{keyNumber}
 use Rattle.rules.specs.Remove.{apartNumber, leftNumber, rightNumber, removeNumber, setApart, joinRight, joinLeft, joinBoth, freed, removeStep, removeBy, removeSlot, slotNumber, removeAt, removeRule}
 use Rattle.rules.specs.Drain.{drainRule}
@@ -19,6 +20,7 @@ use Rattle.rules.proofs.Links.{vacant-below, RemovePassed, remove-passe
 use Rattle.rules.proofs.Agree.{same-link, link-agrees, same-row, row-agrees}
 use Rattle.rules.proofs.Kept.{LinksKept, Keeps, link-kept, row-kept, unless-kept}
 use Rattle.rules.proofs.NeverRead.{plain-alike, unless-alike, same-entry, same-key}
+use Rattle.rules.proofs.Steady.{unless-used}
 
 -- the links beside the slot: two choices, then at most six writes
 freed-agrees : (used : ℕ) (l l′ : List ℕ) → AgreeTo (used * linkWords) l l′ → (i : ℕ) (x : Beside) →
@@ -62,6 +64,19 @@ removal-kept hd k l r h =
       links = simp link-kept (freed-kept l hd (k .index) _ h (remove-passed l hd _ e));
       rows = row-kept (hd .used) r (k .index) zeroRow h;
     })
+
+-- and leaves used as it is; so does the drain step
+pub removal-used : (l r : List ℕ) (hd : Header) (k : Key) → removeSlot l r hd k .header .used ≡ hd .used
+unfolding removeSlot removeBy removeStep
+removal-used l r hd k = unless-used l r hd _ _ refl
+
+pub drain-used : (l r : List ℕ) (hd : Header) → drainRule l r hd .header .used ≡ hd .used
+unfolding drainRule removeAt
+drain-used l r hd =
+    unless-used l r hd _ _
+    (by-pick (λ (o : Outcome). o .header .used ≡ hd .used) (eqb (hd .live) 0) _ (removeAt l r hd (otherEndAt l (hd .used) 0 + 1))
+    (λ _. refl)
+    (λ _. unless-used l r hd _ _ (removal-used l r hd _)))
 
 pub remove-never-reads : (hd : Header) (k : Key) → NeverReads (hd .used) (λ l r. removeRule l r hd k)
 unfolding removeRule keyNumber

@@ -16,6 +16,10 @@ use Rattle.rules.specs.Insert.{insertRule}
 use Rattle.rules.specs.Remove.{removeAt, removeRule}
 use Rattle.rules.specs.Hop.{hopFrom, hopRule}
 use Rattle.rules.specs.Drain.{drainRule}
+use Rattle.rules.specs.Check.{soundNumber, checkRule}
+use Rattle.rules.specs.Clear.{clearRule}
+use Rattle.rules.specs.Retain.{retainRule}
+use Rattle.rules.specs.Rebuild.{Relinked, relinked, clearedRows, rebuildRule}
 use Rattle.rules.specs.declared.Header.{Header}
 use Rattle.rules.specs.declared.Key.{Key}
 use Rattle.rules.specs.declared.KeyAnswer.{KeyAnswer}
@@ -192,6 +196,18 @@ hop-settled l r hd c = settled hopped hopped-readable (hopRule l r hd c)
 pub drain-settled : (l r : List ℕ) (hd : Header) → OneOutcome drained (drainRule l r hd)
 drain-settled l r hd = settled drained drained-readable (drainRule l r hd)
 
+pub check-settled : (l r : List ℕ) (hd : Header) → OneOutcome numbered (checkRule l r hd)
+check-settled l r hd = settled numbered numbered-readable (checkRule l r hd)
+
+pub clear-settled : (l r : List ℕ) (hd : Header) → OneOutcome cleared (clearRule l r hd)
+clear-settled l r hd = settled cleared cleared-readable (clearRule l r hd)
+
+pub retain-settled : (l r : List ℕ) (hd : Header) (bytes : List ℕ) → OneOutcome retained (retainRule l r hd bytes)
+retain-settled l r hd bytes = settled retained retained-readable (retainRule l r hd bytes)
+
+pub rebuild-settled : (l r : List ℕ) (hd : Header) (bytes : List ℕ) → OneOutcome numbered (rebuildRule l r hd bytes)
+rebuild-settled l r hd bytes = settled numbered numbered-readable (rebuildRule l r hd bytes)
+
 pub key-number-settled : (l r : List ℕ) (hd : Header) (k : Key) (m n : ℕ) → m ≡ keyNumber l r hd k → n ≡ keyNumber l r hd k → m ≡ n
 key-number-settled l r hd k m n p q = p ∙ sym q
 
@@ -200,9 +216,22 @@ pub look-settled : (l : List ℕ) (r : RefT (List ℕ)) (hd : Header) (k : Key) 
     RowPart l r hd k x → RowPart l r hd k y → (x .now ≡ y .now) × (x .ptr ≡ y .ptr)
 look-settled l r hd k x y p q = (p .words ∙ sym (q .words), p .place ∙ sym (q .place))
 
--- and of the two parts of calls that are public in their crates
+-- and of the parts of calls that are public in their crates
 pub remove-at-settled : (l r : List ℕ) (hd : Header) (q : ℕ) → OneOutcome removed (removeAt l r hd q)
 remove-at-settled l r hd q = settled removed removed-readable (removeAt l r hd q)
 
 pub hop-from-settled : (l : List ℕ) (hd : Header) (c : ℕ) (x y : HopAnswer) → ofHop x ≡ hopFrom l hd c → ofHop y ≡ hopFrom l hd c → x ≡ y
 hop-from-settled l hd c x y p q = sym (hop-back x) ∙ ap hopOf (p ∙ sym q) ∙ hop-back y
+
+pub sound-number-settled : (k : ℕ) (l : List ℕ) (hd : Header) (m n : ℕ) → m ≡ soundNumber k l hd → n ≡ soundNumber k l hd → m ≡ n
+sound-number-settled k l hd m n p q = p ∙ sym q
+
+-- relinking: the header that is handed back and the links at exit
+pub relink-settled : (l : List ℕ) (n : ℕ) (x y : Header) (m k : List ℕ) →
+    record { links = m; header = x } ≡ relinked l n → record { links = k; header = y } ≡ relinked l n → (x ≡ y) × (m ≡ k)
+relink-settled l n x y m k p q =
+    let e = p ∙ sym q in
+    (ap (λ (w : Relinked). w .header) e, ap (λ (w : Relinked). w .links) e)
+
+pub clear-rows-settled : (l : List ℕ) (n k : ℕ) (r x y : List ℕ) → x ≡ clearedRows l n k r → y ≡ clearedRows l n k r → x ≡ y
+clear-rows-settled l n k r x y p q = p ∙ sym q
