@@ -27,3 +27,4 @@ pub mod Drains
 pub mod Filling
 pub mod Inserted
 pub mod Drained
+pub mod Chosen

@@ -1,0 +1,86 @@
+-- The chosen removed in rising order, for any choice, on a sound table: never refused, the machine's step, and what is left.
+-- Clear and retain are instances. Assumes nothing.
+use mathlib.Core.Path.{_≡_, refl, sym, ap, _∙_, subst}
+use mathlib.Core.List.{List, [], _∷_, _++_}
+use mathlib.Core.Bool.{Bool, true, false}
+use Prim.Native.Nat.{ℕ, zero, suc, _+_, _-_, _≤_, _<_, _%_}
+use native.Mathlib.Omega.{arith}
+use lib.ListN.{length}
+use lib.Dec.{eqb}
+use Rattle.rules.specs.Choice.{pick, both}
+use Rattle.rules.specs.Words.{versionAt, occupiedAt, occupiedBy, keyAt}
+use Rattle.rules.specs.Values.{Values, Outcome, plain, counted, done, refused, unless}
+use Rattle.rules.specs.Refusals.{passes, sideNumber, entryNumber, sideEntryNumber}
+use Rattle.rules.specs.Remove.{removeSlot}
+use Rattle.rules.specs.Check.{soundNumber, checkRule}
+use Rattle.rules.specs.Clear.{drainTimes, clearRule}
+use Rattle.rules.specs.Retain.{removeIf, removeChosen, struckBy, retainNumber, retainRule}
+use Rattle.rules.specs.declared.Header.{Header}
+use Rattle.rules.proofs.Choice.{by-test, both-true}
+use Rattle.runs.specs.Machine.{Machine, liveOf, machineOf}
+use Rattle.runs.specs.Steps.{Step, stays, freed, Struck, strikeIf, strike, all, drainsOn, clearOn, retainOn, soundOn}
+use Rattle.runs.specs.Tables.{Shows, Does}
+use Rattle.runs.proofs.Shown.{entry-passes, side-alone, unless-does}
+use Rattle.runs.proofs.Checked.{sound-passes}
+use Rattle.runs.proofs.Drains.{drained-all}
+use Rattle.runs.proofs.Drained.{headed, live-is, drains-do}
+use Rattle.runs.proofs.Removed.{removal-does}
+
+module _ (chosen : ℕ → Bool) where
+  -- one slot looked at
+  if-does : (o : Outcome) (s : Struck) → Does o (stays (s .machine) (counted (s .count))) → (i : ℕ) →
+    Does (removeIf chosen i o) (let t = strikeIf chosen i s in stays (t .machine) (counted (t .count)))
+  unfolding removeIf strikeIf occupiedAt
+  if-does o s d i =
+    let k = keyAt (o .links) (o .header .used) i in
+    let gone = removeSlot (o .links) (o .rows) (o .header) k in
+    let m = s .machine in
+    let taken : Struck = record { count = s .count + 1; machine = freed m i } in
+    let same : occupiedBy (versionAt (o .links) (o .header .used)) (o .header .used) i ≡ occupiedBy (m .versions) (m .used) i =
+      ap (λ (x : Machine). occupiedBy (x .versions) (x .used) i) (d .shows .same) in
+    subst (λ (t : Bool). Does (pick (both t (chosen i)) (plain (counted (o .answer .count + 1)) (gone .header) (gone .links) (gone .rows)) o)
+        (let t = strikeIf chosen i s in stays (t .machine) (counted (t .count)))) (sym same)
+      (by-test (λ (t : Bool). Does (pick t (plain (counted (o .answer .count + 1)) (gone .header) (gone .links) (gone .rows)) o)
+          (stays (pick t taken s .machine) (counted (pick t taken s .count)))) (both (occupiedBy (m .versions) (m .used) i) (chosen i))
+        (λ e.
+          let g = removal-does (o .links) (o .rows) (o .header) m (d .shows) k (both-true _ (chosen i) e .0) in
+          record { answer = ap (λ (v : Values). counted (v .count + 1)) (d .answer); row = refl; shows = g .shows })
+        (λ _. d))
+
+  pub chosen-does : (l r : List ℕ) (hd : Header) (m : Machine) → Shows l r hd m → (n : ℕ) →
+    Does (removeChosen chosen n (plain (counted 0) hd l r)) (let t = strike chosen n m in stays (t .machine) (counted (t .count)))
+  unfolding removeChosen strike
+  chosen-does l r hd m s zero = record { answer = refl; row = refl; shows = s }
+  chosen-does l r hd m s (suc n) =
+    if-does (removeChosen chosen n (plain (counted 0) hd l r)) (strike chosen n m) (chosen-does l r hd m s n) n
+
+module _ (l r : List ℕ) (hd : Header) (m : Machine) (s : Shows l r hd m) where
+  whole-check : (n : ℕ) → soundNumber n l hd ≡ n
+  whole-check n = sound-passes l hd n (s .sound)
+
+  pub check-does : Does (checkRule l r hd) (soundOn m)
+  unfolding checkRule
+  check-does =
+    unless-does l r hd m s _ 0 (whole-check _ ∙ entry-passes l r hd (s .shaped) (s .sound .zero-even .even)) _ (soundOn m)
+      (λ _. record { answer = refl; row = refl; shows = s })
+
+  -- clear, as the drain step repeated to the end, is every live slot removed in rising order
+  pub clear-does : Does (clearRule l r hd) (clearOn m)
+  unfolding clearRule clearOn
+  clear-does =
+    unless-does l r hd m s _ 0 (whole-check _ ∙ entry-passes l r hd (s .shaped) (s .sound .zero-even .even)) _ (clearOn m)
+      (λ _.
+        subst (λ (x : Machine). Does (drainTimes (hd .live + 1) (plain done hd l r)) (stays x done)) (drained-all (liveOf m) m (headed l r hd m s) refl)
+          (subst (λ (n : ℕ). Does (drainTimes (n + 1) (plain done hd l r)) (stays (drainsOn (liveOf m) m) done)) (sym (live-is l r hd m s))
+            (drains-do (liveOf m) (plain done hd l r) m s refl)))
+
+  pub retain-does : (bytes : List ℕ) → Does (retainRule l r hd bytes) (retainOn m bytes)
+  unfolding retainRule retainNumber retainOn
+  retain-does bytes =
+    subst (λ (u : ℕ). Does (retainRule l r hd bytes)
+        (let n = sideNumber passes (length bytes) u in
+        let t = strike (struckBy bytes) u m in pick (eqb n 0) (stays (t .machine) (counted (t .count))) (stays m (refused n))))
+      (ap (λ (x : Machine). x .used) (s .same))
+      (unless-does l r hd m s _ (sideNumber passes (length bytes) (hd .used))
+        (whole-check _ ∙ side-alone l r hd (s .shaped) (s .sound .zero-even .even) (length bytes) (hd .used)) _ _
+        (λ _. chosen-does (struckBy bytes) l r hd m s (hd .used)))
