@@ -8,20 +8,22 @@ use native.Mathlib.Omega.{arith}
 use lib.ListN.{length}
 use lib.Dec.{eqb}
 use Rattle.rules.specs.Choice.{pick, both}
-use Rattle.rules.specs.Words.{versionAt, occupiedAt, occupiedBy, keyAt}
+use Rattle.rules.specs.Words.{zeroRow, versionAt, occupiedAt, occupiedBy, keyAt}
 use Rattle.rules.specs.Values.{Values, Outcome, plain, counted, done, refused, unless}
-use Rattle.rules.specs.Refusals.{passes, sideNumber, entryNumber, sideEntryNumber}
+use Rattle.rules.specs.Refusals.{passes, shapeNumber, sideNumber, zeroNumber, entryNumber, sideEntryNumber}
 use Rattle.rules.specs.Remove.{removeSlot}
 use Rattle.rules.specs.Check.{soundNumber, checkRule}
 use Rattle.rules.specs.Clear.{drainTimes, clearRule}
 use Rattle.rules.specs.Retain.{removeIf, removeChosen, struckBy, retainNumber, retainRule}
+use Rattle.rules.specs.Sound.{Sound}
 use Rattle.rules.specs.declared.Header.{Header}
 use Rattle.rules.proofs.Choice.{by-test, both-true}
+use Rattle.rules.proofs.Refusals.{passed}
 use Rattle.runs.specs.Machine.{Machine, liveOf, machineOf}
 use Rattle.runs.specs.Steps.{Step, stays, freed, Struck, strikeIf, strike, all, drainsOn, clearOn, retainOn, soundOn}
 use Rattle.runs.specs.Tables.{Shows, Does}
 use Rattle.runs.proofs.Shown.{entry-passes, side-alone, unless-does}
-use Rattle.runs.proofs.Checked.{sound-passes}
+use Rattle.runs.proofs.Checked.{sound-passed, sound-passes}
 use Rattle.runs.proofs.Drains.{drained-all}
 use Rattle.runs.proofs.Drained.{headed, live-is, drains-do}
 use Rattle.runs.proofs.Removed.{removal-does}
@@ -84,3 +86,19 @@ module _ (l r : List ℕ) (hd : Header) (m : Machine) (s : Shows l r hd m) where
       (unless-does l r hd m s _ (sideNumber passes (length bytes) (hd .used))
         (whole-check _ ∙ side-alone l r hd (s .shaped) (s .sound .zero-even .even) (length bytes) (hd .used)) _ _
         (λ _. chosen-does (struckBy bytes) l r hd m s (hd .used)))
+
+-- past the whole check a table is a machine
+pub checked-shows : (l r : List ℕ) (hd : Header) → shapeNumber l r hd ≡ 0 → (s : Sound l hd) → Shows l r hd (machineOf l r hd (s .circle .after))
+checked-shows l r hd e s = record { shaped = e; sound = s; same = refl }
+
+-- so clear, past its check, comes to its end
+pub clear-ends : (l r : List ℕ) (hd : Header) → soundNumber (entryNumber l r hd) l hd ≡ 0 →
+  (drainTimes (hd .live + 1) (plain done hd l r) .answer ≡ done) × (drainTimes (hd .live + 1) (plain done hd l r) .row ≡ zeroRow)
+unfolding entryNumber zeroNumber
+clear-ends l r hd e =
+  let p = sound-passed l hd (entryNumber l r hd) e in
+  let s = checked-shows l r hd (passed _ _ _ (omega arith) (p .0) .0) (p .1) in
+  let m = machineOf l r hd (p .1 .circle .after) in
+  let d = subst (λ (n : ℕ). Does (drainTimes (n + 1) (plain done hd l r)) (stays (drainsOn (liveOf m) m) done)) (sym (live-is l r hd m s))
+    (drains-do (liveOf m) (plain done hd l r) m s refl) in
+  (d .answer, d .row)
