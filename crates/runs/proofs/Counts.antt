@@ -87,3 +87,12 @@ odd-some v (suc n) i l h = go (ℕ-discrete i n) (odd-some v n i)
 pub odd-none : (v : ℕ → ℕ) (n : ℕ) → ((k : ℕ) → k < n → v k % 2 ≡ 0) → oddCount v n ≡ 0
 odd-none v zero h = odd-none-yet v
 odd-none v (suc n) h = omega (arith, odd-more v n, h n (omega arith), odd-none v n (λ k q. h k (omega arith)))
+
+-- further up no fewer are counted
+pub odd-rises : (v : ℕ → ℕ) (k n : ℕ) → k ≤ n → oddCount v k ≤ oddCount v n
+odd-rises v k zero h = let f : k ≡ 0 = omega arith in omega (arith, ap (oddCount v) f)
+odd-rises v k (suc n) h = go (ℕ-discrete k (suc n)) (odd-rises v k n)
+  where
+    go : Dec (k ≡ suc n) → (k ≤ n → oddCount v k ≤ oddCount v n) → oddCount v k ≤ oddCount v (suc n)
+    go (yes e) r = omega (arith, ap (oddCount v) e)
+    go (no m) r = omega (arith, odd-more v n, r (omega arith))

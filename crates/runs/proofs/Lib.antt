@@ -28,3 +28,4 @@ pub mod Filling
 pub mod Inserted
 pub mod Drained
 pub mod Chosen
+pub mod Scanned
