@@ -4,10 +4,15 @@ pub mod Rows
 pub mod Times
 pub mod Segments
 pub mod Runs
+pub mod Tests
 pub mod Fronts
+pub mod Rising
 pub mod Counts
 pub mod Freed
 pub mod Filled
 pub mod Grown
 pub mod Linked
+pub mod Chained
 pub mod Sound
+pub mod Relinked
+pub mod ClearedRows

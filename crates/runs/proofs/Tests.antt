@@ -1,0 +1,111 @@
+-- The rules' tests of vacant slots, fronts and backs, and what they tell of runs. Assumes nothing.
+use mathlib.Core.Path.{_≡_, refl, sym, _∙_}
+use mathlib.Core.Bool.{Bool, true, false, not}
+use Prim.Native.Nat.{ℕ, zero, suc, _-_, _≤_, _<_, _%_}
+use native.Mathlib.Decide.{ℕ-discrete}
+use native.Mathlib.Numerals.{add-one}
+use native.Mathlib.Omega.{arith}
+use lib.Dec.{ltb}
+use borrow.Author.Tests.{ltb-true, eqb-true, eqb-false, lt-ltb, eq-eqb, ne-eqb, not-true}
+use Rattle.rules.specs.Choice.{pick, both}
+use Rattle.rules.specs.Words.{isEven, vacantBy}
+use Rattle.rules.specs.Runs.{Front, Run, pastFront, isFront, isBack, frontOf}
+use Rattle.rules.proofs.Choice.{both-true, both-false}
+use Rattle.runs.proofs.Runs.{par, back-run}
+
+-- a choice between one thing and the same
+pub no-choice : {A : Type 0} (t : Bool) (x : A) → pick t x x ≡ x
+no-choice true x = refl
+no-choice false x = refl
+
+-- what a test says twice it says once
+said-once : (a b : Bool) → both a (not (both a b)) ≡ both a (not b)
+said-once true b = refl
+said-once false b = refl
+
+alone : (a : Bool) → both a (not false) ≡ a
+alone true = refl
+alone false = refl
+
+module _ (v : ℕ → ℕ) (u : ℕ) where
+  -- a vacant slot, an occupied one, one past the slots in use
+  pub vacant-yes : (k : ℕ) → k < u → v k % 2 ≡ 0 → vacantBy v u k ≡ true
+  vacant-yes k h e = simp (lt-ltb k u h, eq-eqb (v k % 2) 0 e)
+
+  pub vacant-no : (k : ℕ) → (k < u → v k % 2 ≡ 1) → vacantBy v u k ≡ false
+  vacant-no k h = go (ltb k u) refl
+    where
+      go : (t : Bool) → ltb k u ≡ t → both t (isEven (v k)) ≡ false
+      go true e = ne-eqb (v k % 2) 0 (λ z. omega (arith, h (ltb-true k u e)))
+      go false e = refl
+
+  pub vacant-is : (k : ℕ) → vacantBy v u k ≡ true → (k < u) × (v k % 2 ≡ 0)
+  vacant-is k e =
+      let b = both-true (ltb k u) (isEven (v k)) e in
+      (ltb-true k u (b .0), eqb-true (v k % 2) 0 (b .1))
+
+  pub vacant-not : (k : ℕ) → vacantBy v u k ≡ false → k < u → v k % 2 ≡ 1
+  vacant-not k e h =
+      let z = eqb-false (v k % 2) 0 (both-false (ltb k u) (isEven (v k)) e (lt-ltb k u h)) in
+      omega arith
+
+  -- the tests of a front and of a back, by the slots beside
+  pub front-first : isFront v u 0 ≡ vacantBy v u 0
+  unfolding isFront pastFront
+  front-first = said-once (vacantBy v u 0) false ∙ alone (vacantBy v u 0)
+
+  pub front-later : (k : ℕ) → isFront v u (suc k) ≡ both (vacantBy v u (suc k)) (not (vacantBy v u k))
+  unfolding isFront pastFront
+  front-later k =
+      let e : suc k - 1 ≡ k = omega arith in
+      simp (lt-ltb 0 (suc k) (omega arith), e) (said-once (vacantBy v u (suc k)) (vacantBy v u k))
+
+  pub back-by : (k : ℕ) → isBack v u k ≡ both (vacantBy v u k) (not (vacantBy v u (suc k)))
+  unfolding isBack
+  back-by k = simp add-one
+
+  -- a front; a slot that is none
+  pub front-yes : (k : ℕ) → Front v u k → isFront v u k ≡ true
+  front-yes zero f = front-first ∙ vacant-yes 0 (f .below) (f .vacant)
+  front-yes (suc k) f = simp (front-later k, vacant-yes (suc k) (f .below) (f .vacant), vacant-no k (λ _. f .starts k refl))
+
+  pub front-is : (k : ℕ) → isFront v u k ≡ true → Front v u k
+  front-is zero e =
+      let w = vacant-is 0 (sym front-first ∙ e) in
+      record { below = w .0; vacant = w .1; starts = λ j t. absurd (omega arith) }
+  front-is (suc k) e =
+      let b = both-true (vacantBy v u (suc k)) (not (vacantBy v u k)) (sym (front-later k) ∙ e) in
+      let w = vacant-is (suc k) (b .0) in
+      let o = vacant-not k (not-true (vacantBy v u k) (b .1)) (omega arith) in
+      record { below = w .0; vacant = w .1; starts = λ j t. omega (arith, par v j k (omega arith)) }
+
+  pub front-no : (k : ℕ) → vacantBy v u k ≡ false → isFront v u k ≡ false
+  unfolding isFront
+  front-no k e = simp e
+
+  -- a run's back, and the slot after it
+  pub back-vacant : {f b : ℕ} → Run v u f b → vacantBy v u b ≡ true
+  back-vacant {b = b} r = vacant-yes b (r .below) (r .vacant b (r .ordered) (omega arith))
+
+  pub back-last : {f b : ℕ} → Run v u f b → vacantBy v u (suc b) ≡ false
+  back-last {b = b} r = vacant-no (suc b) (r .stops)
+
+  pub back-yes : {f b : ℕ} → Run v u f b → isBack v u b ≡ true
+  back-yes {b = b} r = simp (back-by b, back-vacant r, back-last r)
+
+  -- the front of the run that a slot is in
+  pub front-of : {f b : ℕ} → Run v u f b → (k : ℕ) → f ≤ k → k ≤ b → frontOf v u k ≡ f
+  unfolding frontOf
+  front-of r zero p q = omega arith
+  front-of {f} {b} r (suc k) p q = go (ℕ-discrete f (suc k)) (front-of r k)
+    where
+      go : Dec (f ≡ suc k) → (f ≤ k → k ≤ b → frontOf v u k ≡ f) → frontOf v u (suc k) ≡ f
+      go (yes e) ih = simp (vacant-no k (λ _. r .front .starts k (sym e))) (sym e)
+      go (no n) ih = simp (vacant-yes k (omega (arith, r .below)) (r .vacant k (omega arith) (omega arith))) (ih (omega arith) (omega arith))
+
+  pub back-is : (k : ℕ) → isBack v u k ≡ true → Run v u (frontOf v u k) k
+  back-is k e =
+      let b = both-true (vacantBy v u k) (not (vacantBy v u (suc k))) (sym (back-by k) ∙ e) in
+      let w = vacant-is k (b .0) in
+      let r = back-run v u k (w .0) (w .1) (vacant-not (suc k) (not-true (vacantBy v u (suc k)) (b .1))) in
+      rw (front-of (r .1) k (r .1 .ordered) (omega arith)) (r .1)
