@@ -43,6 +43,7 @@ module _ (l r : List ℕ) (n : ℕ) where
         go false t (yes e) ih = simp (t, ih, le-ltb i k (omega arith), lt-ltb i (suc k) (omega arith), ap (vacantAt l n) e)
         go false t (no d) ih = simp (t, below-next i k d) ih
 
+    -- after all of them
     pub cleared-row : (i : ℕ) → rowAt (clearedRows l n n r) n i ≡ pick (vacantAt l n i) zeroRow (rowAt r n i)
     unfolding vacantAt
     cleared-row i =
