@@ -17,7 +17,7 @@ use Rattle.runs.proofs.Points.{alike-other, put-same, put-other, put2-l
 use Rattle.runs.proofs.Segments.{Seg, seg-join, seg-last, seg-end}
 use Rattle.runs.proofs.Runs.{run-same}
 use Rattle.runs.proofs.Linked.{Linked}
-use Rattle.runs.proofs.Tests.{no-choice, vacant-no, front-later, front-no, back-by, back-vacant, back-last, back-yes, front-of}
+use Rattle.runs.proofs.EdgeTests.{no-choice, vacant-no, front-later, front-no, back-by, back-vacant, back-last, back-yes, front-of}
 use Rattle.runs.proofs.Rising.{risen-none, risen-zero, risen-on, risen-past, risen-once, risen-only, risen-below, risen-run, rising-fronts}
 
 -- the runs that end below slot k are those whose fronts are below this slot

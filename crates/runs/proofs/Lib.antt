@@ -4,7 +4,7 @@ pub mod Rows
 pub mod Times
 pub mod Segments
 pub mod Runs
-pub mod Tests
+pub mod EdgeTests
 pub mod Fronts
 pub mod Rising
 pub mod Counts

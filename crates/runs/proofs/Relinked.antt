@@ -16,7 +16,7 @@ use Rattle.rules.proofs.Choice.{by-pick}
 use Rattle.runs.specs.Rising.{rising}
 use Rattle.runs.proofs.Points.{put-same, put-other}
 use Rattle.runs.proofs.Words.{holds, holds-below, words}
-use Rattle.runs.proofs.Tests.{back-vacant, back-is}
+use Rattle.runs.proofs.EdgeTests.{back-vacant, back-is}
 use Rattle.runs.proofs.Chained.{Chained, pass, join, last-in-use, none-yet, all-linked}
 use Rattle.runs.proofs.Sound.{LinkedTable, sound, chain-is}
 

@@ -15,7 +15,7 @@ use Rattle.runs.specs.Rising.{risen, rising}
 use Rattle.runs.proofs.Points.{alike-same, alike-other, below-next}
 use Rattle.runs.proofs.Times.{times-append}
 use Rattle.runs.proofs.Runs.{par}
-use Rattle.runs.proofs.Tests.{no-choice, vacant-yes, front-later, front-yes, front-is}
+use Rattle.runs.proofs.EdgeTests.{no-choice, vacant-yes, front-later, front-yes, front-is}
 use Rattle.runs.proofs.Fronts.{Fronts, same-times}
 
 at-most-one : (t : Bool) → one-if t ≤ 1
