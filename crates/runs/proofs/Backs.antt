@@ -9,7 +9,7 @@ use Rattle.rules.specs.Runs.{Front, Run}
 use Rattle.rules.specs.Words.{vacantBy}
 use Rattle.runs.specs.Machine.{scan, backOf}
 use Rattle.runs.proofs.Runs.{par, front-run}
-use Rattle.runs.proofs.Tests.{vacant-yes, vacant-past, vacant-no}
+use Rattle.runs.proofs.Tests.{vacant-yes, vacant-no}
 
 module _ (v : ℕ → ℕ) (u : ℕ) where
   goes-on : (d k : ℕ) → suc k < u → v (suc k) % 2 ≡ 0 → scan v u (suc d) k ≡ scan v u d (suc k)
@@ -18,11 +18,11 @@ module _ (v : ℕ → ℕ) (u : ℕ) where
 
   stops-at-end : (d k : ℕ) → u ≤ suc k → scan v u (suc d) k ≡ k
   unfolding scan
-  stops-at-end d k h = simp (vacant-past v u (suc k) h)
+  stops-at-end d k h = simp (vacant-no v u (suc k) (λ q. absurd (omega arith)))
 
   stops-before : (d k : ℕ) → v (suc k) % 2 ≡ 1 → scan v u (suc d) k ≡ k
   unfolding scan
-  stops-before d k e = simp (vacant-no v u (suc k) e)
+  stops-before d k e = simp (vacant-no v u (suc k) (λ _. e))
 
   scan-run : (f b d k : ℕ) → Run v u f b → f ≤ k → k ≤ b → k + d ≡ u → scan v u d k ≡ b
   scan-run f b zero k r p q e = absurd (omega (arith, r .below))

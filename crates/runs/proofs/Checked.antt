@@ -23,7 +23,7 @@ use Rattle.runs.proofs.Times.{times-each}
 use Rattle.runs.proofs.Segments.{Seg}
 use Rattle.runs.proofs.Fronts.{Ended}
 use Rattle.runs.proofs.Sound.{LinkedTable, linked, sound, off-zero}
-use Rattle.runs.proofs.RunTests.{is-true, is-false, test-all, all-test, test-front, front-test, run-front, test-run, run-test}
+use Rattle.runs.proofs.RunTests.{is-true, is-false, test-all, all-test, front-is, front-yes, front-of, back-is, back-yes}
 use Rattle.runs.proofs.Circles.{fronts-length, meets-all}
 
 -- from slot x next comes to 0 in n steps and no sooner, over fronts alone, and prev undoes each step
@@ -38,15 +38,15 @@ module _ (l : List ℕ) (used : ℕ) where
   test-ends : endsTest l used ≡ true → Ended (versionAt l used) used (otherEndAt l used)
   unfolding endsTest
   test-ends h f b r =
-      let e = run-front _ _ f b b r (r .ordered) (omega arith) in
-      let t = both-true _ _ (rw (run-test _ _ f b r, e) at (test-all used _ h b (r .below))) in
+      let e = front-of _ _ r b (r .ordered) (omega arith) in
+      let t = both-true _ _ (rw (back-yes _ _ r, e) at (test-all used _ h b (r .below))) in
       (eqb-true _ _ (t .0), eqb-true _ _ (t .1))
 
   ends-test : Ended (versionAt l used) used (otherEndAt l used) → endsTest l used ≡ true
   unfolding endsTest
   ends-test e = all-test used _ (λ i _.
       by-pick (λ (t : Bool). t ≡ true) (not (isBack (versionAt l used) used i)) true _ (λ _. refl) (λ h.
-      let o = e _ i (test-run _ _ i (not-false _ h)) in
+      let o = e _ i (back-is _ _ i (not-false _ h)) in
       simp (eq-eqb _ _ (o .0), eq-eqb _ _ (o .1))))
 
   test-circle : (n x : ℕ) → circleTest l used n x ≡ true → Comes l used n x
@@ -55,7 +55,7 @@ module _ (l : List ℕ) (used : ℕ) where
   test-circle (suc n) x h =
       let t = both-true _ _ h in
       let w = both-true _ _ (t .0) in
-      go (nextAt l used x) refl (test-front _ _ _ (w .0)) (eqb-true _ _ (w .1)) (t .1) (test-circle n _)
+      go (nextAt l used x) refl (front-is _ _ _ (w .0)) (eqb-true _ _ (w .1)) (t .1) (test-circle n _)
     where
       go : (y : ℕ) → nextAt l used x ≡ y → Front (versionAt l used) used y → prevAt l used y ≡ x
           → pick (eqb y 0) (eqb n 0) (circleTest l used n y) ≡ true → (circleTest l used n y ≡ true → Comes l used n y)
@@ -87,10 +87,10 @@ module _ (l : List ℕ) (used : ℕ) where
           → ((k : ℕ) → 1 ≤ times k (0 ∷ over) → Front (versionAt l used) used k)
           → circleTest l used (suc (length over)) x ≡ true
       follow [] x s off f =
-          simp (s .0, front-test _ _ 0 (f 0 (omega (arith, alike-same 0 0 refl))), eq-eqb (prevAt l used 0) x (s .1))
+          simp (s .0, front-yes _ _ 0 (f 0 (omega (arith, alike-same 0 0 refl))), eq-eqb (prevAt l used 0) x (s .1))
       follow (y ∷ m) x s off f = simp (
         s .0,
-        front-test _ _ y (f y (omega (arith, alike-same y y refl))),
+        front-yes _ _ y (f y (omega (arith, alike-same y y refl))),
         eq-eqb (prevAt l used y) x (s .1),
         ne-eqb y 0 (λ e. omega (arith, alike-same 0 y (sym e))),
         follow m y (s .2) (omega arith) (λ k h. f k (omega arith)),

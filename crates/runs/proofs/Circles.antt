@@ -15,7 +15,7 @@ use Rattle.runs.proofs.Segments.{Seg, seg-split}
 use Rattle.runs.proofs.Fronts.{Fronts, fronts-once, same-times}
 use Rattle.runs.proofs.Counts.{count-more, count-none-yet}
 use Rattle.runs.proofs.Sound.{seg-unique}
-use Rattle.runs.proofs.RunTests.{test-front, front-test}
+use Rattle.runs.proofs.RunTests.{front-is, front-yes}
 
 -- a way that meets its end only there has nothing twice: from a second meeting on it would be as long as from the first
 pub seg-once : (n p : ℕ → ℕ) (a : ℕ) (l : List ℕ) (b : ℕ) → Seg n p a l b → times b l ≡ 0 → (k : ℕ) → times k l ≤ 1
@@ -88,8 +88,8 @@ module _ (v : ℕ → ℕ) (u : ℕ) (l : List ℕ) where
   pub fronts-length : Fronts v u l → suc (length l) ≡ runCount v u
   fronts-length i = omega (
     arith,
-    count-least (isFront v u) u (0 ∷ l) (fronts-once v u l i) (λ k h. (i .only k h .below, front-test v u k (i .only k h))),
-    count-most (isFront v u) u (0 ∷ l) (λ k _ h. omega (arith, i .every k (test-front v u k h))),
+    count-least (isFront v u) u (0 ∷ l) (fronts-once v u l i) (λ k h. (i .only k h .below, front-yes v u k (i .only k h))),
+    count-most (isFront v u) u (0 ∷ l) (λ k _ h. omega (arith, i .every k (front-is v u k h))),
   )
 
   -- a front that such a circle did not meet would be one front too many
@@ -113,5 +113,5 @@ module _ (v : ℕ → ℕ) (u : ℕ) (l : List ℕ) where
       every k f (no m) = absurd (omega (
         arith,
         count-least (isFront v u) u (k ∷ 0 ∷ l) (times-once k (0 ∷ l) (omega arith) once)
-            (λ j h. let g = times-each (Front v u) k (0 ∷ l) f only j h in (g .below, front-test v u j g)),
+            (λ j h. let g = times-each (Front v u) k (0 ∷ l) f only j h in (g .below, front-yes v u j g)),
       ))

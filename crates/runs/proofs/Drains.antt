@@ -18,7 +18,7 @@ use Rattle.runs.specs.Steps.{freed, Struck, strikeIf, strike, all, lowes
 use Rattle.runs.proofs.Points.{put-same, put-other}
 use Rattle.runs.proofs.Counts.{odd-some, odd-none}
 use Rattle.runs.proofs.Runs.{par, after-run}
-use Rattle.runs.proofs.Tests.{occupied-yes, occupied-no, occupied-past}
+use Rattle.runs.proofs.Tests.{occupied-yes, occupied-no}
 use Rattle.runs.proofs.Backs.{run-from}
 use Rattle.runs.proofs.Struck.{rise-even, freed-count}
 
@@ -75,7 +75,7 @@ strike-vacant : (chosen : ℕ → Bool) (n : ℕ) (m : Machine) → ((i : ℕ) �
 strike-vacant chosen zero m h = strike-start chosen m
 strike-vacant chosen (suc n) m h =
   strike-more chosen n m ∙ ap (strikeAt chosen n) (strike-vacant chosen n m (λ i l. h i (omega arith)))
-  ∙ simp (occupied-no (m .versions) (m .used) n (h n (omega arith)))
+  ∙ simp (occupied-no (m .versions) (m .used) n (λ _. h n (omega arith)))
 
 -- once the lowest live slot is gone, none is live as far as there
 gone-too : (m : Machine) → Headed m → 1 ≤ liveOf m → (i : ℕ) → i < suc (lowest m) → freed m (lowest m) .versions i % 2 ≡ 0

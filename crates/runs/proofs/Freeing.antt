@@ -19,7 +19,7 @@ use Rattle.runs.proofs.Times.{times-split}
 use Rattle.runs.proofs.Words.{holds, holds-below, words}
 use Rattle.runs.proofs.Runs.{par}
 use Rattle.runs.proofs.Fronts.{fronts-once}
-use Rattle.runs.proofs.Tests.{vacant-is, vacant-not, vacant-past}
+use Rattle.runs.proofs.Tests.{vacant-is, vacant-not}
 use Rattle.runs.proofs.Chains.{renamed-at, without-at}
 use Rattle.runs.proofs.Linked.{Linked, remove-neither, remove-right, remove-left, remove-both}
 use Rattle.runs.proofs.Followed.{remove-t, remove-right-links, remove-left-link}

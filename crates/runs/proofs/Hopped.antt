@@ -21,7 +21,7 @@ use Rattle.runs.specs.Steps.{stays, visitOn, hopOn}
 use Rattle.runs.specs.Tables.{Shows, Does}
 use Rattle.runs.proofs.Runs.{after-run}
 use Rattle.runs.proofs.Tests.{vacant-yes, vacant-is, occupied-yes, occupied-is, occupied-not, occupied-no}
-use Rattle.runs.proofs.RunTests.{front-is}
+use Rattle.runs.proofs.RunTests.{front-by}
 use Rattle.runs.proofs.Backs.{back-of, run-from}
 use Rattle.runs.proofs.Linked.{Linked}
 use Rattle.runs.proofs.Sound.{LinkedTable, linked}
@@ -50,8 +50,8 @@ module _ (l r : List ℕ) (hd : Header) (after : List ℕ) (L : LinkedTable l (h
         pick (eqb (backOf v (hd .used) c + 1) (hd .used)) done
           (pick (occupiedBy v (hd .used) (backOf v (hd .used) c + 1)) (visit l (hd .used) (backOf v (hd .used) c + 1)) (refused damaged))
         ≡ hopOn m c
-      same (yes e) = simp (eq-eqb (backOf v (hd .used) c + 1) (hd .used) e, lt-leb (hd .used) c (f .below), occupied-no v (hd .used) c (f .vacant), p)
-      same (no n) = simp (ne-eqb (backOf v (hd .used) c + 1) (hd .used) n, lt-leb (hd .used) c (f .below), occupied-no v (hd .used) c (f .vacant), p, occupied-yes v (hd .used) (backOf v (hd .used) c + 1) (omega (arith, run .below)) (after-run v (hd .used) c (backOf v (hd .used) c) run (omega (arith, run .below))))
+      same (yes e) = simp (eq-eqb (backOf v (hd .used) c + 1) (hd .used) e, lt-leb (hd .used) c (f .below), occupied-no v (hd .used) c (λ _. f .vacant), p)
+      same (no n) = simp (ne-eqb (backOf v (hd .used) c + 1) (hd .used) n, lt-leb (hd .used) c (f .below), occupied-no v (hd .used) c (λ _. f .vacant), p, occupied-yes v (hd .used) (backOf v (hd .used) c + 1) (omega (arith, run .below)) (after-run v (hd .used) c (backOf v (hd .used) c) run (omega (arith, run .below))))
 
   pub hop-is : hopFrom l hd c ≡ hopOn m c
   unfolding hopOn vacantAt occupiedAt
@@ -63,7 +63,7 @@ module _ (l r : List ℕ) (hd : Header) (after : List ℕ) (L : LinkedTable l (h
         let w = vacant-yes v (hd .used) c h e in
         by-test (λ (t : Bool). pastFront v (hd .used) c ≡ t → hopFrom l hd c ≡ hopOn m c) (pastFront v (hd .used) c)
           (λ p _. sym (inside-run l hd c p) ∙ simp (lt-leb (hd .used) c h, o, p))
-          (λ p _. over (front-is v (hd .used) c w p) p) refl
+          (λ p _. over (front-by v (hd .used) c w p) p) refl
       below : c < hd .used → hopFrom l hd c ≡ hopOn m c
       below h =
         by-test (λ (t : Bool). occupiedBy v (hd .used) c ≡ t → hopFrom l hd c ≡ hopOn m c) (occupiedBy v (hd .used) c)

@@ -27,7 +27,7 @@ use Rattle.runs.specs.Machine.{Machine, keyOf, machineOf, frontsAfter}
 use Rattle.runs.specs.Steps.{keyNumberOn, freed, takenOut, removeOn}
 use Rattle.runs.specs.Tables.{Shows, Does}
 use Rattle.runs.proofs.Points.{put-same, put-other}
-use Rattle.runs.proofs.Tests.{both-no, both-if, vacant-yes, vacant-is, vacant-not, occupied-is}
+use Rattle.runs.proofs.Tests.{both-if, vacant-yes, vacant-is, vacant-not, occupied-is}
 use Rattle.runs.proofs.Words.{holds-below, version-put, length-link}
 use Rattle.runs.proofs.Rows.{row-below, row-put, length-row}
 use Rattle.runs.proofs.Counts.{odd-change, odd-some, odd-but-one}

@@ -1,18 +1,18 @@
--- The rules' tests of runs, and what they are true of: test-X goes from a test to the fact X, X-test from the fact to the test.
--- Assumes nothing.
-use mathlib.Core.Bool.{Bool, true, false}
-use mathlib.Core.Path.{_≡_, refl, sym, subst}
-use Prim.Native.Nat.{ℕ, zero, suc, _+_, _-_, _≤_, _<_, _%_}
+-- The rules' tests of fronts and backs, and what they tell of runs. Assumes nothing.
+use mathlib.Core.Path.{_≡_, refl, sym, _∙_}
+use mathlib.Core.Bool.{Bool, true, false, not}
+use Prim.Native.Nat.{ℕ, zero, suc, _-_, _≤_, _<_, _%_}
 use native.Mathlib.Decide.{ℕ-discrete}
+use native.Mathlib.Numerals.{add-one}
 use native.Mathlib.Omega.{arith}
 use lib.Dec.{ltb}
-use borrow.Author.Tests.{eqb-true, eqb-false, eq-eqb, ltb-true, lt-ltb, not-true, not-false}
-use Rattle.rules.specs.Choice.{pick, allBelow}
+use borrow.Author.Tests.{lt-ltb, not-true}
+use Rattle.rules.specs.Choice.{pick, both, allBelow}
 use Rattle.rules.specs.Words.{vacantBy}
 use Rattle.rules.specs.Runs.{Front, Run, pastFront, isFront, isBack, frontOf}
-use Rattle.rules.proofs.Choice.{by-test, both-true, both-false}
+use Rattle.rules.proofs.Choice.{by-test, both-true}
 use Rattle.runs.proofs.Runs.{par, back-run}
-use Rattle.runs.proofs.Tests.{vacant-yes, vacant-is, vacant-not}
+use Rattle.runs.proofs.Tests.{vacant-yes, vacant-no, vacant-is, vacant-not}
 
 pub is-true : (t : Bool) → (t ≡ false → ⊥) → t ≡ true
 is-true t h = by-test (λ (x : Bool). x ≡ true) t (λ _. refl) (λ e. absurd (h e))
@@ -35,64 +35,83 @@ unfolding allBelow
 all-test zero t h = refl
 all-test (suc n) t h = simp (all-test n t (λ i l. h i (omega arith)), h n (omega arith))
 
+-- a choice between one thing and the same
+pub no-choice : {A : Type 0} (t : Bool) (x : A) → pick t x x ≡ x
+no-choice true x = refl
+no-choice false x = refl
+
+-- what a test says twice it says once
+said-once : (a b : Bool) → both a (not (both a b)) ≡ both a (not b)
+said-once true b = refl
+said-once false b = refl
+
+alone : (a : Bool) → both a (not false) ≡ a
+alone true = refl
+alone false = refl
+
 module _ (v : ℕ → ℕ) (u : ℕ) where
-  -- a slot that is occupied, where it is in use
-  no-vacancy : (i : ℕ) → (i < u → v i % 2 ≡ 1) → vacantBy v u i ≡ false
-  no-vacancy i h = is-false (vacantBy v u i) (λ t. let w = vacant-is v u i t in omega (arith, h (w .0)))
-
-  pub test-front : (i : ℕ) → isFront v u i ≡ true → Front v u i
+  -- the tests of a front and of a back, by the slots beside
+  pub front-first : isFront v u 0 ≡ vacantBy v u 0
   unfolding isFront pastFront
-  test-front i h =
-      let t = both-true _ _ h in
-      let w = vacant-is v u i (t .0) in
-      let first = both-false _ _ (not-true _ (t .1)) (t .0) in
-      record {
-        below = w .0;
-        vacant = w .1;
-        starts = λ j e.
-            let before = vacant-not v u (i - 1) (both-false _ _ first (lt-ltb 0 i (omega arith))) (omega arith) in
-            omega (arith, par v (i - 1) j (omega arith));
-      }
+  front-first = said-once (vacantBy v u 0) false ∙ alone (vacantBy v u 0)
 
-  pub front-test : (i : ℕ) → Front v u i → isFront v u i ≡ true
+  pub front-later : (k : ℕ) → isFront v u (suc k) ≡ both (vacantBy v u (suc k)) (not (vacantBy v u k))
   unfolding isFront pastFront
-  front-test i f = is-true (isFront v u i) (λ h.
-      let past : pastFront v u i ≡ true = not-false _ (both-false _ _ h (vacant-yes v u i (f .below) (f .vacant))) in
-      let t = both-true (ltb 0 i) (vacantBy v u (i - 1)) (both-true (vacantBy v u i) _ past .1) in
-      omega (arith, f .starts (i - 1) (omega (arith, ltb-true 0 i (t .0))), vacant-is v u (i - 1) (t .1) .1))
+  front-later k =
+      let e : suc k - 1 ≡ k = omega arith in
+      simp (lt-ltb 0 (suc k) (omega arith), e) (said-once (vacantBy v u (suc k)) (vacantBy v u k))
 
-  -- a vacant slot that is not past a front is one, and a front is not past one
-  pub front-is : (i : ℕ) → vacantBy v u i ≡ true → pastFront v u i ≡ false → Front v u i
+  pub back-by : (k : ℕ) → isBack v u k ≡ both (vacantBy v u k) (not (vacantBy v u (suc k)))
+  unfolding isBack
+  back-by k = simp add-one
+
+  -- a front; a slot that is none
+  pub front-yes : (k : ℕ) → Front v u k → isFront v u k ≡ true
+  front-yes zero f = front-first ∙ vacant-yes v u 0 (f .below) (f .vacant)
+  front-yes (suc k) f = simp (front-later k, vacant-yes v u (suc k) (f .below) (f .vacant), vacant-no v u k (λ _. f .starts k refl))
+
+  pub front-is : (k : ℕ) → isFront v u k ≡ true → Front v u k
+  front-is zero e =
+      let w = vacant-is v u 0 (sym front-first ∙ e) in
+      record { below = w .0; vacant = w .1; starts = λ j t. absurd (omega arith) }
+  front-is (suc k) e =
+      let b = both-true (vacantBy v u (suc k)) (not (vacantBy v u k)) (sym (front-later k) ∙ e) in
+      let w = vacant-is v u (suc k) (b .0) in
+      let o = vacant-not v u k (not-true (vacantBy v u k) (b .1)) (omega arith) in
+      record { below = w .0; vacant = w .1; starts = λ j t. omega (arith, par v j k (omega arith)) }
+
+  -- a vacant slot that is not past a front is one
+  pub front-by : (k : ℕ) → vacantBy v u k ≡ true → pastFront v u k ≡ false → Front v u k
   unfolding isFront
-  front-is i e p = test-front i (simp (e, p))
+  front-by k e p = front-is k (simp (e, p))
 
-  pub front-not-past : (i : ℕ) → Front v u i → pastFront v u i ≡ false
+  pub front-no : (k : ℕ) → vacantBy v u k ≡ false → isFront v u k ≡ false
   unfolding isFront
-  front-not-past i f = not-true _ (both-true (vacantBy v u i) _ (front-test i f) .1)
+  front-no k e = simp e
 
-  -- frontOf finds the front of the run that a slot is in
-  pub run-front : (f b i : ℕ) → Run v u f b → f ≤ i → i ≤ b → frontOf v u i ≡ f
+  -- a run's back, and the slot after it
+  pub back-vacant : {f b : ℕ} → Run v u f b → vacantBy v u b ≡ true
+  back-vacant {b = b} r = vacant-yes v u b (r .below) (r .vacant b (r .ordered) (omega arith))
+
+  pub back-last : {f b : ℕ} → Run v u f b → vacantBy v u (suc b) ≡ false
+  back-last {b = b} r = vacant-no v u (suc b) (r .stops)
+
+  pub back-yes : {f b : ℕ} → Run v u f b → isBack v u b ≡ true
+  back-yes {b = b} r = simp (back-by b, back-vacant r, back-last r)
+
+  -- the front of the run that a slot is in
+  pub front-of : {f b : ℕ} → Run v u f b → (k : ℕ) → f ≤ k → k ≤ b → frontOf v u k ≡ f
   unfolding frontOf
-  run-front f b zero r p q = omega arith
-  run-front f b (suc i) r p q = go (ℕ-discrete f (suc i)) (run-front f b i r)
+  front-of r zero p q = omega arith
+  front-of {f} {b} r (suc k) p q = go (ℕ-discrete f (suc k)) (front-of r k)
     where
-      go : Dec (f ≡ suc i) → (f ≤ i → i ≤ b → frontOf v u i ≡ f) → pick (vacantBy v u i) (frontOf v u i) (suc i) ≡ f
-      go (yes e) ih = simp (no-vacancy i (λ _. r .front .starts i (sym e))) (sym e)
-      go (no n) ih = simp (vacant-yes v u i (omega (arith, r .below)) (r .vacant i (omega arith) (omega arith))) (ih (omega arith) (omega arith))
+      go : Dec (f ≡ suc k) → (f ≤ k → k ≤ b → frontOf v u k ≡ f) → frontOf v u (suc k) ≡ f
+      go (yes e) ih = simp (vacant-no v u k (λ _. r .front .starts k (sym e))) (sym e)
+      go (no n) ih = simp (vacant-yes v u k (omega (arith, r .below)) (r .vacant k (omega arith) (omega arith))) (ih (omega arith) (omega arith))
 
-  pub test-run : (b : ℕ) → isBack v u b ≡ true → Run v u (frontOf v u b) b
-  unfolding isBack
-  test-run b h =
-      let t = both-true _ _ h in
-      let w = vacant-is v u b (t .0) in
-      let after = vacant-not v u (b + 1) (not-true _ (t .1)) in
-      let stops : suc b < u → v (suc b) % 2 ≡ 1 = λ l. omega (arith, after (omega arith), par v (b + 1) (suc b) (omega arith)) in
-      let s = back-run v u b (w .0) (w .1) stops in
-      subst (λ (f : ℕ). Run v u f b) (sym (run-front (s .0) b b (s .1) (s .1 .ordered) (omega arith))) (s .1)
-
-  pub run-test : (f b : ℕ) → Run v u f b → isBack v u b ≡ true
-  unfolding isBack
-  run-test f b r = is-true (isBack v u b) (λ h.
-      let after = not-false _ (both-false _ _ h (vacant-yes v u b (r .below) (r .vacant b (r .ordered) (omega arith)))) in
-      let w = vacant-is v u (b + 1) after in
-      omega (arith, r .stops (omega arith), par v (b + 1) (suc b) (omega arith)))
+  pub back-is : (k : ℕ) → isBack v u k ≡ true → Run v u (frontOf v u k) k
+  back-is k e =
+      let b = both-true (vacantBy v u k) (not (vacantBy v u (suc k))) (sym (back-by k) ∙ e) in
+      let w = vacant-is v u k (b .0) in
+      let r = back-run v u k (w .0) (w .1) (vacant-not v u (suc k) (not-true (vacantBy v u (suc k)) (b .1))) in
+      rw (front-of (r .1) k (r .1 .ordered) (omega arith)) (r .1)

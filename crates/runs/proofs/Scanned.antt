@@ -28,7 +28,7 @@ use Rattle.runs.specs.Tables.{Shows, Does}
 use Rattle.runs.specs.Scans.{Scan, nextSlot, strikeOut, scanOne, scanStart, scans}
 use Rattle.runs.proofs.Counts.{odd-more, odd-none, odd-rises}
 use Rattle.runs.proofs.Runs.{par, after-run}
-use Rattle.runs.proofs.Tests.{vacant-is, vacant-not, vacant-past, occupied-yes, occupied-no}
+use Rattle.runs.proofs.Tests.{vacant-is, vacant-not, occupied-yes, occupied-no}
 use Rattle.runs.proofs.Backs.{run-from}
 use Rattle.runs.proofs.Linked.{Linked}
 use Rattle.runs.proofs.Sound.{LinkedTable, linked}
@@ -78,7 +78,7 @@ module _ (chosen : ℕ → Bool) (l r : List ℕ) (hd : Header) (m : Machine) (s
   -- vacant slots are passed over
   over-one : (k : ℕ) → m .versions k % 2 ≡ 0 → soFar (suc k) ≡ soFar k
   unfolding removeChosen removeIf
-  over-one k e = simp (occupied-now k k (omega arith), occupied-no (m .versions) (m .used) k e)
+  over-one k e = simp (occupied-now k k (omega arith), occupied-no (m .versions) (m .used) k (λ _. e))
 
   over-vacant : (d k n : ℕ) → n ≡ k + d → ((i : ℕ) → k ≤ i → i < n → m .versions i % 2 ≡ 0) → soFar n ≡ soFar k
   over-vacant zero k n e h = let f : n ≡ k = omega arith in ap soFar f

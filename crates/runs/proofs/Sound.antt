@@ -92,10 +92,12 @@ seg-unique n p a (x ∷ l) (y ∷ m) b s t h k =
 pub off-zero : (v : ℕ → ℕ) (u : ℕ) (l : List ℕ) → Fronts v u l → times 0 l ≡ 0
 off-zero v u l i = omega (arith, fronts-once v u l i 0, alike-same 0 0 refl)
 
--- the chain of a sound table is unique
-pub one-chain : (l : List ℕ) (hd : Header) (s t : Sound l hd) → s .circle .after ≡ t .circle .after
-one-chain l hd s t =
+-- the chain of a sound table is unique: the one that it is linked by, and so that of any other proof
+pub chain-is : (l : List ℕ) (hd : Header) (s : Sound l hd) (after : List ℕ) → LinkedTable l (hd .used) after → s .circle .after ≡ after
+chain-is l hd s after M =
   let L = linked l hd s in
-  let M = linked l hd t in
-  seg-unique (nextAt l (hd .used)) (prevAt l (hd .used)) 0 (s .circle .after) (t .circle .after) 0 (L .seg) (M .seg)
+  seg-unique (nextAt l (hd .used)) (prevAt l (hd .used)) 0 (s .circle .after) after 0 (L .seg) (M .seg)
     (off-zero _ _ _ (L .fronts)) (off-zero _ _ _ (M .fronts))
+
+pub one-chain : (l : List ℕ) (hd : Header) (s t : Sound l hd) → s .circle .after ≡ t .circle .after
+one-chain l hd s t = chain-is l hd s (t .circle .after) (linked l hd t)

@@ -6,12 +6,8 @@ use native.Mathlib.Omega.{arith}
 use lib.Dec.{ltb, eqb}
 use borrow.Author.Tests.{eq-eqb, ne-eqb, lt-ltb, le-ltb, eqb-true, eqb-false, ltb-true}
 use Rattle.rules.specs.Choice.{pick, both}
-use Rattle.rules.specs.Words.{vacantBy, occupiedBy}
+use Rattle.rules.specs.Words.{isOdd, isEven, vacantBy, occupiedBy}
 use Rattle.rules.proofs.Choice.{both-true, both-false}
-
-pub both-no : (a : Bool) → both a false ≡ false
-both-no true = refl
-both-no false = refl
 
 pub both-if : (a b : Bool) → (a ≡ true → b ≡ false) → both a b ≡ false
 both-if true b h = h refl
@@ -21,11 +17,8 @@ module _ (v : ℕ → ℕ) (u i : ℕ) where
   pub vacant-yes : i < u → v i % 2 ≡ 0 → vacantBy v u i ≡ true
   vacant-yes h e = simp (lt-ltb i u h, eq-eqb (v i % 2) 0 e)
 
-  pub vacant-past : u ≤ i → vacantBy v u i ≡ false
-  vacant-past h = simp (le-ltb i u h)
-
-  pub vacant-no : v i % 2 ≡ 1 → vacantBy v u i ≡ false
-  vacant-no e = simp (ne-eqb (v i % 2) 0 (λ t. omega arith)) (both-no (ltb i u))
+  pub vacant-no : (i < u → v i % 2 ≡ 1) → vacantBy v u i ≡ false
+  vacant-no h = both-if (ltb i u) (isEven (v i)) (λ e. ne-eqb (v i % 2) 0 (λ z. omega (arith, h (ltb-true i u e))))
 
   pub vacant-is : vacantBy v u i ≡ true → (i < u) × (v i % 2 ≡ 0)
   vacant-is e = let f = both-true (ltb i u) (eqb (v i % 2) 0) e in (ltb-true i u (f .0), eqb-true (v i % 2) 0 (f .1))
@@ -37,11 +30,8 @@ module _ (v : ℕ → ℕ) (u i : ℕ) where
   pub occupied-yes : i < u → v i % 2 ≡ 1 → occupiedBy v u i ≡ true
   occupied-yes h e = simp (lt-ltb i u h, eq-eqb (v i % 2) 1 e)
 
-  pub occupied-past : u ≤ i → occupiedBy v u i ≡ false
-  occupied-past h = simp (le-ltb i u h)
-
-  pub occupied-no : v i % 2 ≡ 0 → occupiedBy v u i ≡ false
-  occupied-no e = simp (ne-eqb (v i % 2) 1 (λ t. omega arith)) (both-no (ltb i u))
+  pub occupied-no : (i < u → v i % 2 ≡ 0) → occupiedBy v u i ≡ false
+  occupied-no h = both-if (ltb i u) (isOdd (v i)) (λ e. ne-eqb (v i % 2) 1 (λ z. omega (arith, h (ltb-true i u e))))
 
   pub occupied-is : occupiedBy v u i ≡ true → (i < u) × (v i % 2 ≡ 1)
   occupied-is e = let f = both-true (ltb i u) (eqb (v i % 2) 1) e in (ltb-true i u (f .0), eqb-true (v i % 2) 1 (f .1))
