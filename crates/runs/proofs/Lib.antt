@@ -33,3 +33,4 @@ pub mod Drains
 pub mod Drained
 pub mod Chosen
 pub mod Scanned
+pub mod Begun

@@ -44,18 +44,27 @@ module _ (l r : List ℕ) (hd : Header) (shape : shapeNumber l r hd ≡ 0) (even
     skipped (sideNumber (shapeNumber l r hd) side asked) (isOdd (versionAt l (hd .used) 0)) damaged not-odd
     ∙ ap (λ (n : ℕ). sideNumber n side asked) shape
 
--- what is lent keeps its shape under any header that fits it
+-- tables that may be lent, under any header that fits them; and tables of the same lengths
+pub fits-shape : (l r : List ℕ) (hd : Header) → lentNumber (length l) (length r) ≡ 0 → 1 ≤ hd .used → hd .used ≤ lentOf l → hd .live < hd .used →
+  shapeNumber l r hd ≡ 0
+unfolding shapeNumber headerNumber
+fits-shape l r hd e p q s =
+  skipped _ _ _ (le-ltb (hd .used - 1) (hd .live) (omega arith))
+  ∙ skipped _ _ _ (le-ltb (lentOf l) (hd .used) q)
+  ∙ skipped _ _ _ (ne-eqb (hd .used) 0 (λ t. omega arith))
+  ∙ e
+
+pub lent-shape : (l r : List ℕ) (hd : Header) → shapeNumber l r hd ≡ 0 → lentNumber (length l) (length r) ≡ 0
+unfolding shapeNumber headerNumber
+lent-shape l r hd e = passed _ _ _ (omega arith) (passed _ _ _ (omega arith) (passed _ _ _ (omega arith) e .0) .0) .0
+
+pub same-lent : (l r l′ r′ : List ℕ) → lentNumber (length l) (length r) ≡ 0 → length l′ ≡ length l → length r′ ≡ length r → lentNumber (length l′) (length r′) ≡ 0
+same-lent l r l′ r′ e a b = ap (λ (n : ℕ). lentNumber n (length r′)) a ∙ ap (lentNumber (length l)) b ∙ e
+
 pub still-shaped : (l r l′ r′ : List ℕ) (hd hd′ : Header) → shapeNumber l r hd ≡ 0 → length l′ ≡ length l → length r′ ≡ length r →
   1 ≤ hd′ .used → hd′ .used ≤ lentOf l → hd′ .live < hd′ .used → shapeNumber l′ r′ hd′ ≡ 0
-unfolding shapeNumber headerNumber
 still-shaped l r l′ r′ hd hd′ e a b p q s =
-  let e₃ = passed _ _ _ (omega arith) e in
-  let e₂ = passed _ _ _ (omega arith) (e₃ .0) in
-  let e₁ = passed _ _ _ (omega arith) (e₂ .0) in
-  skipped _ _ _ (le-ltb (hd′ .used - 1) (hd′ .live) (omega arith))
-  ∙ skipped _ _ _ (ap (λ (n : ℕ). ltb (n / linkWords) (hd′ .used)) a ∙ le-ltb _ _ q)
-  ∙ skipped _ _ _ (ne-eqb (hd′ .used) 0 (λ t. omega arith))
-  ∙ ap (λ (n : ℕ). lentNumber n (length r′)) a ∙ ap (lentNumber (length l)) b ∙ e₁ .0
+  fits-shape l′ r′ hd′ (same-lent l r l′ r′ (lent-shape l r hd e) a b) p (omega (arith, ap (λ (n : ℕ). n / linkWords) a)) s
 
 -- a table of the right shape with its chain known, and the machine that it is
 module _ (l r : List ℕ) (hd : Header) where
