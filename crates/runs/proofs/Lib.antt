@@ -34,3 +34,4 @@ pub mod Drained
 pub mod Chosen
 pub mod Scanned
 pub mod Begun
+pub mod Accessed
