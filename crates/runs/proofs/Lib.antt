@@ -35,3 +35,5 @@ pub mod Chosen
 pub mod Scanned
 pub mod Begun
 pub mod Accessed
+pub mod Full
+pub mod Calls

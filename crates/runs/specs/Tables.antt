@@ -20,3 +20,19 @@ pub record Does (o : Outcome) (s : Step) : Type 0 where
   pub answer : o .answer ≡ s .answer
   pub row : o .row ≡ s .row
   pub shows : Shows (o .links) (o .rows) (o .header) (s .machine)
+
+-- on every sound table of the right shape the call is the step
+abbrev pub Simulates : (List ℕ → List ℕ → Header → Outcome) → (Machine → Step) → Type 0
+Simulates call step = (l r : List ℕ) (hd : Header) (m : Machine) → Shows l r hd m → Does (call l r hd) (step m)
+
+-- the call gives the number on no sound table of the right shape
+abbrev pub NeverGives : ℕ → (List ℕ → List ℕ → Header → Outcome) → Type 0
+NeverGives n call = (l r : List ℕ) (hd : Header) → shapeNumber l r hd ≡ 0 → Sound l hd → call l r hd .answer .number ≡ n → ⊥
+
+-- two outcomes that answer alike and leave one machine
+pub record Alike (o o′ : Outcome) (m : Machine) : Type 0 where
+  pub answer : o .answer ≡ o′ .answer
+  pub row : o .row ≡ o′ .row
+  pub header : o .header ≡ o′ .header
+  pub shows : Shows (o .links) (o .rows) (o .header) m
+  pub shows′ : Shows (o′ .links) (o′ .rows) (o′ .header) m
