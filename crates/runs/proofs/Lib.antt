@@ -28,6 +28,7 @@ pub mod Removed
 pub mod Filling
 pub mod Inserted
 pub mod Hopped
+pub mod Walked
 pub mod Struck
 pub mod Drains
 pub mod Drained

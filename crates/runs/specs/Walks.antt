@@ -1,0 +1,51 @@
+-- A walk: hop steps one after the other, each from the cursor that the step before gave. And what it ought to visit: the keys of
+-- the live slots, in rising order.
+use Prim.Native.Nat.{ℕ, zero, suc, _+_, _≤_}
+use mathlib.Core.List.{List, [], _∷_, map}
+use Rattle.rules.specs.Choice.{pick}
+use Rattle.rules.specs.Words.{occupiedBy}
+use Rattle.rules.specs.Values.{Kind, gives, ends, refuses, Values}
+use Rattle.rules.specs.Hop.{hopRule}
+use Rattle.rules.specs.declared.Header.{Header}
+use Rattle.rules.specs.declared.Key.{Key}
+use Rattle.runs.specs.Machine.{Machine, keyOf}
+
+-- the keys in the order of the visits, and the answer that stands after the last of them
+pub record Walk : Type 0 where
+  pub keys : List Key
+  pub end : Values
+
+abbrev pub ended : Values → Walk
+ended a = record { keys = []; end = a }
+
+abbrev pub visiting : Key → Walk → Walk
+visiting k w = record { keys = k ∷ w .keys; end = w .end }
+
+-- after the answer a of kind t: a visit goes on the list, and the walk goes on from its cursor; any other answer ends it
+abbrev pub onward : (ℕ → Walk) → Values → Kind → Walk
+onward walkFrom a gives = visiting (a .key) (walkFrom (a .cursor))
+onward walkFrom a ends = ended a
+onward walkFrom a refuses = ended a
+
+-- from cursor c, at most d visits; the step after them is still asked for its answer
+unfoldable pub walk : List ℕ → List ℕ → Header → ℕ → ℕ → Walk
+walk l r hd zero c = ended (hopRule l r hd c .answer)
+walk l r hd (suc d) c = let a = hopRule l r hd c .answer in onward (walk l r hd d) a (a .kind)
+
+-- the keys of the occupied slots among the d slots from slot k up
+unfoldable pub liveKeys : Machine → ℕ → ℕ → List Key
+liveKeys m zero k = []
+liveKeys m (suc d) k =
+    pick (occupiedBy (m .versions) (m .used) k) (keyOf m k ∷ liveKeys m d (k + 1)) (liveKeys m d (k + 1))
+
+-- the slots of the keys
+abbrev pub indices : List Key → List ℕ
+indices = map (λ k. k .index)
+
+-- each slot is above the one before it, the first at least n
+abbrev pub RisingFrom : ℕ → List Key → Type 0
+RisingFrom n [] = Unit {0}
+RisingFrom n (k ∷ ks) = (n ≤ k .index) × RisingFrom (k .index + 1) ks
+
+abbrev pub Rising : List Key → Type 0
+Rising ks = RisingFrom 0 ks
