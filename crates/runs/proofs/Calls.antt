@@ -5,12 +5,15 @@ use mathlib.Core.Path.{_≡_, refl, sym, ap, _∙_}
 use mathlib.Core.Logic.{_≢_}
 use mathlib.Core.List.{List}
 use mathlib.Core.Bool.{Bool}
-use Prim.Native.Nat.{ℕ}
+use Prim.Native.Nat.{ℕ, _+_}
 use native.Mathlib.Omega.{arith}
-use lib.Dec.{eqb}
+use lib.ListN.{length}
+use lib.Dec.{leb, eqb}
 use Rattle.rules.specs.Choice.{pick}
-use Rattle.rules.specs.Values.{Values, Outcome}
-use Rattle.rules.specs.Refusals.{_▸_, passes, damaged, sideNumber}
+use Rattle.rules.specs.Words.{rowWords, occupiedBy}
+use Rattle.rules.specs.Values.{Values, Outcome, refused}
+use Rattle.rules.specs.Refusals.{_▸_, passes, shape, damaged, evenVersion, notLive, full, sideNumber}
+use Rattle.rules.specs.Runs.{pastFront}
 use Rattle.rules.specs.Start.{roomRule}
 use Rattle.rules.specs.Access.{replaceRule}
 use Rattle.rules.specs.Insert.{insertRule}
@@ -23,8 +26,8 @@ use Rattle.rules.specs.Retain.{retainRule}
 use Rattle.rules.specs.declared.Header.{Header}
 use Rattle.rules.specs.declared.Key.{Key}
 use Rattle.rules.proofs.Choice.{by-pick}
-use Rattle.runs.specs.Machine.{Machine}
-use Rattle.runs.specs.Steps.{Step, stays, keyNumberOn, insertNumberOn, insertOn, removeOn, replaceOn, hopOn, drainOn, clearOn, retainOn, soundOn, roomOn}
+use Rattle.runs.specs.Machine.{Machine, liveOf, backOf, machineOf}
+use Rattle.runs.specs.Steps.{Step, stays, stepUnless, keyNumberOn, place, insertNumberOn, grownBy, filledBy, insertOn, removeOn, replaceOn, hopOn, drainOn, clearOn, retainOn, soundOn, roomOn}
 use Rattle.runs.specs.Tables.{Shows, Does, Simulates, NeverGives, Alike}
 use Rattle.runs.proofs.Shown.{header-is}
 use Rattle.runs.proofs.Inserted.{insert-does}
@@ -75,3 +78,80 @@ one-answer call step sim l r l′ r′ hd hd′ m s t =
   ; shows = d .shows
   ; shows′ = e .shows
   }
+
+-- 2 is never given: the machine has no chain that names it
+abbrev NotTwo : ℕ → Type 0
+NotTwo n = n ≢ damaged
+
+chain-never : (n k : ℕ) (t : Bool) → NotTwo n → NotTwo k → NotTwo (n ▸ (t, k))
+unfolding _▸_
+chain-never n k t h j =
+  by-pick NotTwo (eqb n 0) _ _ (λ _. by-pick NotTwo t k 0 (λ _. j) (λ _ e. absurd (omega arith))) (λ _. h)
+
+unless-never : (m : Machine) (n : ℕ) (s : Step) → NotTwo n → NotTwo (s .answer .number) → NotTwo (stepUnless m n s .answer .number)
+unless-never m n s h j = by-pick (λ (x : Step). NotTwo (x .answer .number)) (eqb n 0) s (stays m (refused n)) (λ _. j) (λ _. h)
+
+side-never : (n asked : ℕ) → NotTwo (sideNumber passes n asked)
+unfolding sideNumber
+side-never n asked = chain-never passes shape _ (λ e. omega arith) (λ e. omega arith)
+
+key-never : (n : ℕ) (m : Machine) (k : Key) → NotTwo n → NotTwo (keyNumberOn n m k)
+unfolding keyNumberOn
+key-never n m k h = chain-never _ notLive _ (chain-never n evenVersion _ h (λ e. omega arith)) (λ e. omega arith)
+
+never : (call : List ℕ → List ℕ → Header → Outcome) (step : Machine → Step) → Simulates call step →
+  ((m : Machine) → NotTwo (step m .answer .number)) → NeverGives damaged call
+never call step sim h l r hd e s q =
+  let m = machineOf l r hd (s .circle .after) in
+  h m (sym (ap (λ (v : Values). v .number) (sim l r hd m (checked-shows l r hd e s) .answer)) ∙ q)
+
+pub insert-never-2 : (side : List ℕ) → NeverGives damaged (λ l r hd. insertRule l r hd side)
+unfolding insertOn insertNumberOn grownBy filledBy
+insert-never-2 side =
+  never _ (λ m. insertOn m side) (insert-simulates side) (λ m.
+    unless-never m (insertNumberOn m side) _ (chain-never _ full _ (side-never _ _) (λ e. omega arith))
+      (by-pick (λ (x : Step). NotTwo (x .answer .number)) (eqb (place m) 0) (grownBy m side) (filledBy m side (place m)) (λ _ e. omega arith) (λ _ e. omega arith)))
+
+pub remove-never-2 : (k : Key) → NeverGives damaged (λ l r hd. removeRule l r hd k)
+unfolding removeOn
+remove-never-2 k =
+  never _ (λ m. removeOn m k) (remove-simulates k) (λ m. unless-never m (keyNumberOn passes m k) _ (key-never passes m k (λ e. omega arith)) (λ e. omega arith))
+
+pub replace-never-2 : (k : Key) (side : List ℕ) → NeverGives damaged (λ l r hd. replaceRule l r hd k side)
+unfolding replaceOn
+replace-never-2 k side =
+  never _ (λ m. replaceOn m k side) (replace-simulates k side) (λ m.
+    unless-never m (keyNumberOn (sideNumber passes (length side) rowWords) m k) _ (key-never _ m k (side-never _ _)) (λ e. omega arith))
+
+pub hop-never-2 : (c : ℕ) → NeverGives damaged (λ l r hd. hopRule l r hd c)
+unfolding hopOn
+hop-never-2 c =
+  never _ (λ m. stays m (hopOn m c)) (hop-simulates c) (λ m.
+    by-pick Fine (leb (m .used) c) _ _ (λ _ e. omega arith)
+      (λ _. by-pick Fine (occupiedBy (m .versions) (m .used) c) _ _ (λ _ e. omega arith)
+        (λ _. by-pick Fine (pastFront (m .versions) (m .used) c) _ _ (λ _ e. omega arith)
+          (λ _. by-pick Fine (eqb (backOf (m .versions) (m .used) c + 1) (m .used)) _ _ (λ _ e. omega arith) (λ _ e. omega arith)))))
+  where
+    Fine : Values → Type 0
+    Fine v = NotTwo (v .number)
+
+pub drain-never-2 : NeverGives damaged drainRule
+unfolding drainOn
+drain-never-2 =
+  never _ drainOn drain-simulates (λ m.
+    by-pick (λ (x : Step). NotTwo (x .answer .number)) (eqb (liveOf m) 0) _ _ (λ _ e. omega arith) (λ _ e. omega arith))
+
+pub clear-never-2 : NeverGives damaged clearRule
+unfolding clearOn
+clear-never-2 = never _ clearOn clear-simulates (λ m e. omega arith)
+
+pub retain-never-2 : (bytes : List ℕ) → NeverGives damaged (λ l r hd. retainRule l r hd bytes)
+unfolding retainOn
+retain-never-2 bytes =
+  never _ (λ m. retainOn m bytes) (retain-simulates bytes) (λ m. unless-never m (sideNumber passes (length bytes) (m .used)) _ (side-never _ _) (λ e. omega arith))
+
+pub check-never-2 : NeverGives damaged checkRule
+check-never-2 = never _ soundOn check-simulates (λ m e. omega arith)
+
+pub room-never-2 : NeverGives damaged roomRule
+room-never-2 = never _ roomOn room-simulates (λ m e. omega arith)
