@@ -38,3 +38,4 @@ pub mod Begun
 pub mod Accessed
 pub mod Full
 pub mod Calls
+pub mod Leaves
