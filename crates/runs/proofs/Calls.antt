@@ -1,21 +1,22 @@
 -- The theorems, call by call: on a sound table each rule is the machine's step and leaves a sound table; none gives 2; and two
 -- tables that are one machine answer alike and stay one machine, whatever stands inside their runs and in the links of occupied
 -- slots. Assumes nothing.
-use mathlib.Core.Path.{_≡_, refl, sym, ap, _∙_}
+use mathlib.Core.Path.{_≡_, refl, sym, ap, _∙_, subst, fun-ext}
 use mathlib.Core.Logic.{_≢_}
-use mathlib.Core.List.{List}
+use mathlib.Core.List.{List, [], _∷_}
 use mathlib.Core.Bool.{Bool}
-use Prim.Native.Nat.{ℕ, _+_}
+use Prim.Native.Nat.{ℕ, _+_, _≤_}
 use native.Mathlib.Omega.{arith}
 use lib.ListN.{length}
 use lib.Dec.{leb, eqb}
-use Rattle.rules.specs.Choice.{pick}
-use Rattle.rules.specs.Words.{rowWords, occupiedBy}
+use Rattle.rules.specs.Choice.{pick, alike, times}
+use Rattle.rules.specs.Words.{rowWords, versionAt, nextAt, prevAt, occupiedBy}
 use Rattle.rules.specs.Values.{Values, Outcome, refused}
-use Rattle.rules.specs.Refusals.{_▸_, passes, shape, damaged, evenVersion, notLive, full, sideNumber}
-use Rattle.rules.specs.Runs.{pastFront}
+use Rattle.rules.specs.Refusals.{_▸_, passes, shape, damaged, evenVersion, notLive, full, shapeNumber, sideNumber}
+use Rattle.rules.specs.Runs.{Front, pastFront}
+use Rattle.rules.specs.Sound.{Sound}
 use Rattle.rules.specs.Start.{roomRule}
-use Rattle.rules.specs.Access.{replaceRule}
+use Rattle.rules.specs.Access.{keyNumber, replaceRule}
 use Rattle.rules.specs.Insert.{insertRule}
 use Rattle.rules.specs.Remove.{removeRule}
 use Rattle.rules.specs.Hop.{hopRule}
@@ -29,9 +30,12 @@ use Rattle.rules.proofs.Choice.{by-pick}
 use Rattle.runs.specs.Machine.{Machine, liveOf, backOf, machineOf}
 use Rattle.runs.specs.Steps.{Step, stays, stepUnless, keyNumberOn, place, insertNumberOn, grownBy, filledBy, insertOn, removeOn, replaceOn, hopOn, drainOn, clearOn, retainOn, soundOn, roomOn}
 use Rattle.runs.specs.Tables.{Shows, Does, Simulates, NeverGives, Alike}
+use Rattle.runs.proofs.Segments.{seg-agree}
+use Rattle.runs.proofs.Linked.{Linked}
+use Rattle.runs.proofs.Sound.{linked, off-zero}
 use Rattle.runs.proofs.Shown.{header-is}
 use Rattle.runs.proofs.Inserted.{insert-does}
-use Rattle.runs.proofs.Removed.{remove-does}
+use Rattle.runs.proofs.Removed.{key-number-is, remove-does}
 use Rattle.runs.proofs.Accessed.{replace-does, room-does}
 use Rattle.runs.proofs.Hopped.{hop-does}
 use Rattle.runs.proofs.Drained.{drain-does}
@@ -78,6 +82,19 @@ one-answer call step sim l r l′ r′ hd hd′ m s t =
   ; shows = d .shows
   ; shows′ = e .shows
   }
+
+-- words inside a run and link words of occupied slots mean nothing: sound tables with the same versions, and the same next at the
+-- fronts of runs, are one machine
+pub same-machine : (l l′ r : List ℕ) (hd : Header) (s : Sound l hd) (t : Sound l′ hd) → length l ≡ length l′ →
+  ((i : ℕ) → versionAt l (hd .used) i ≡ versionAt l′ (hd .used) i) →
+  ((i : ℕ) → Front (versionAt l (hd .used)) (hd .used) i → nextAt l (hd .used) i ≡ nextAt l′ (hd .used) i) →
+  machineOf l r hd (s .circle .after) ≡ machineOf l′ r hd (t .circle .after)
+same-machine l l′ r hd s t e v n =
+  let L = linked l hd s in
+  let M = linked l′ hd t in
+  let chains = seg-agree (nextAt l (hd .used)) (prevAt l (hd .used)) (nextAt l′ (hd .used)) (prevAt l′ (hd .used)) 0 (s .circle .after) (t .circle .after) 0 (L .seg) (M .seg)
+    (off-zero _ _ _ (L .fronts)) (off-zero _ _ _ (M .fronts)) (λ k h. n k (s .circle .only k h)) in
+  cc (e, fun-ext v, chains)
 
 -- 2 is never given: the machine has no chain that names it
 abbrev NotTwo : ℕ → Type 0
@@ -155,3 +172,8 @@ check-never-2 = never _ soundOn check-simulates (λ m e. omega arith)
 
 pub room-never-2 : NeverGives damaged roomRule
 room-never-2 = never _ roomOn room-simulates (λ m e. omega arith)
+
+pub key-number-never-2 : (l r : List ℕ) (hd : Header) → shapeNumber l r hd ≡ 0 → Sound l hd → (k : Key) → keyNumber l r hd k ≡ damaged → ⊥
+key-number-never-2 l r hd e s k q =
+  let m = machineOf l r hd (s .circle .after) in
+  key-never passes m k (λ z. omega arith) (sym (key-number-is l r hd m (checked-shows l r hd e s) k) ∙ q)

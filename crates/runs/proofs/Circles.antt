@@ -11,10 +11,9 @@ use Rattle.rules.specs.Choice.{one-if, alike, times, countBelow}
 use Rattle.rules.specs.Runs.{Front, isFront, runCount}
 use Rattle.runs.proofs.Points.{alike-same, alike-other}
 use Rattle.runs.proofs.Times.{times-append, times-split, times-less, times-once, times-each}
-use Rattle.runs.proofs.Segments.{Seg, seg-split}
+use Rattle.runs.proofs.Segments.{Seg, seg-split, seg-unique}
 use Rattle.runs.proofs.Fronts.{Fronts, fronts-once, same-times}
 use Rattle.runs.proofs.Counts.{count-more, count-none-yet}
-use Rattle.runs.proofs.Sound.{seg-unique}
 use Rattle.runs.proofs.RunTests.{front-is, front-yes}
 
 -- a way that meets its end only there has nothing twice: from a second meeting on it would be as long as from the first

@@ -25,7 +25,7 @@ use Rattle.runs.proofs.Linked.{Linked}
 use Rattle.runs.proofs.Sound.{linked}
 use Rattle.runs.proofs.Shown.{entry-passes, unless-does}
 use Rattle.runs.proofs.Struck.{freed-count}
-use Rattle.runs.proofs.Drains.{Headed, zero-run, lowest-live}
+use Rattle.runs.proofs.Drains.{Headed, zero-run, none-lower, lowest-live}
 use Rattle.runs.proofs.Removed.{remove-at-does}
 
 -- a table that is a machine has slot 0 in use, and vacant
@@ -45,6 +45,17 @@ module _ (l r : List ℕ) (hd : Header) (m : Machine) (s : Shows l r hd m) where
     let L = linked l hd (s .sound) in
     ap (λ (b : ℕ). b + 1) (L .ends 0 (backOf (versionAt l (hd .used)) (hd .used) 0) (zero-run (machineOf l r hd (s .sound .circle .after)) z) .0)
     ∙ ap lowest (s .same)
+
+  -- it is in use and occupied where any row is live, and nothing below it is
+  pub lowest-slot : 1 ≤ hd .live →
+    let q = otherEndAt l (hd .used) 0 + 1 in
+    (q < hd .used) × (versionAt l (hd .used) q % 2 ≡ 1) × ((i : ℕ) → i < q → versionAt l (hd .used) i % 2 ≡ 0)
+  lowest-slot h =
+    let n = machineOf l r hd (s .sound .circle .after) in
+    let z : Headed n = subst Headed (sym (s .same)) (headed l r hd m s) in
+    let t = lowest-is ∙ ap lowest (sym (s .same)) in
+    let w = lowest-live n z (omega (arith, s .sound .live-count .counted)) in
+    rw t (w .0, w .1, none-lower n z)
 
   pub drain-does : Does (drainRule l r hd) (drainOn m)
   unfolding drainRule drainOn

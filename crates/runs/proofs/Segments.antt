@@ -78,3 +78,19 @@ module _ (n p n′ p′ : ℕ → ℕ) where
     ( hn a (omega (arith, alike-same a a refl)) (λ q. omega (arith, o₁ (p r), seg-last n p x l r (s .2), alike-same (p r) a (sym q))) ∙ s .0
     , hp x (omega (arith, alike-same x x refl)) (λ q. omega (arith, o₂ (n r), seg-first n p r m b t, alike-same (n r) x (sym q))) ∙ s .1
     , seg-cut x l r m b (s .2) t (λ k. omega (arith, o₁ k)) (λ k. omega (arith, o₂ k)) e₁ e₂ (λ k h. hn k (omega arith)) (λ k h. hp k (omega arith)))
+
+-- two ways whose next words agree on the slots of the first, and which meet their end only there, are one
+pub seg-agree : (n p n′ p′ : ℕ → ℕ) (a : ℕ) (l m : List ℕ) (b : ℕ) → Seg n p a l b → Seg n′ p′ a m b → times b l ≡ 0 → times b m ≡ 0 →
+  ((k : ℕ) → 1 ≤ times k (a ∷ l) → n k ≡ n′ k) → l ≡ m
+seg-agree n p n′ p′ a [] [] b s t h k e = refl
+seg-agree n p n′ p′ a [] (y ∷ m) b s t h k e =
+  absurd (omega (arith, alike-same b y (sym (s .0) ∙ e a (omega (arith, alike-same a a refl)) ∙ t .0)))
+seg-agree n p n′ p′ a (x ∷ l) [] b s t h k e =
+  absurd (omega (arith, alike-same b x (sym (t .0) ∙ sym (e a (omega (arith, alike-same a a refl))) ∙ s .0)))
+seg-agree n p n′ p′ a (x ∷ l) (y ∷ m) b s t h k e =
+  let q : y ≡ x = sym (t .0) ∙ sym (e a (omega (arith, alike-same a a refl))) ∙ s .0 in
+  let r = seg-agree n p n′ p′ x l m b (s .2) (subst (λ (z : ℕ). Seg n′ p′ z m b) q (t .2)) (omega arith) (omega arith) (λ i g. e i (omega arith)) in
+  cc
+
+pub seg-unique : (n p : ℕ → ℕ) (a : ℕ) (l m : List ℕ) (b : ℕ) → Seg n p a l b → Seg n p a m b → times b l ≡ 0 → times b m ≡ 0 → l ≡ m
+seg-unique n p a l m b s t h k = seg-agree n p n p a l m b s t h k (λ i q. refl)

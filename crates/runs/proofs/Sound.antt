@@ -11,7 +11,7 @@ use Rattle.rules.specs.Sound.{ZeroEven, LiveCount, Follows, Circle, Ends, Sound
 use Rattle.rules.specs.declared.Header.{Header}
 use Rattle.runs.proofs.Points.{alike-same, alike-other}
 use Rattle.runs.proofs.Times.{times-append, times-split}
-use Rattle.runs.proofs.Segments.{Seg, seg-split, seg-first}
+use Rattle.runs.proofs.Segments.{Seg, seg-unique}
 use Rattle.runs.proofs.Fronts.{Fronts, Ended, fronts-once}
 use Rattle.runs.proofs.Linked.{Linked}
 
@@ -78,16 +78,6 @@ module _ (l : List ℕ) (hd : Header) where
     sound after L c .circle .after ≡ after
   unfolding sound
   sound-chain after L c = refl
-
--- two ways that agree on next, and meet their end only there, are one
-pub seg-unique : (n p : ℕ → ℕ) (a : ℕ) (l m : List ℕ) (b : ℕ) → Seg n p a l b → Seg n p a m b → times b l ≡ 0 → times b m ≡ 0 → l ≡ m
-seg-unique n p a [] [] b s t h k = refl
-seg-unique n p a [] (y ∷ m) b s t h k = absurd (omega (arith, alike-same b y (sym (s .0) ∙ t .0)))
-seg-unique n p a (x ∷ l) [] b s t h k = absurd (omega (arith, alike-same b x (sym (t .0) ∙ s .0)))
-seg-unique n p a (x ∷ l) (y ∷ m) b s t h k =
-  let e : y ≡ x = sym (t .0) ∙ s .0 in
-  let r = seg-unique n p x l m b (s .2) (subst (λ (z : ℕ). Seg n p z m b) e (t .2)) (omega arith) (omega arith) in
-  cc
 
 pub off-zero : (v : ℕ → ℕ) (u : ℕ) (l : List ℕ) → Fronts v u l → times 0 l ≡ 0
 off-zero v u l i = omega (arith, fronts-once v u l i 0, alike-same 0 0 refl)
