@@ -32,7 +32,7 @@ module _ (v : ℕ → ℕ) (u : ℕ) where
       go (yes t) (no n) ih = stops-at-end d k (omega arith) ∙ t
       go (yes t) (yes l) ih = stops-before d k (omega (arith, r .stops (omega arith), par v (suc k) (suc b) (omega arith))) ∙ t
       go (no t) _ ih =
-        goes-on d k (omega (arith, r .below)) (r .vacant (suc k) (omega arith) (omega arith)) ∙ ih (omega arith) (omega arith) (omega arith)
+          goes-on d k (omega (arith, r .below)) (r .vacant (suc k) (omega arith) (omega arith)) ∙ ih (omega arith) (omega arith) (omega arith)
 
   pub back-of : (f b : ℕ) → Run v u f b → backOf v u f ≡ b
   back-of f b r = scan-run f b (u - f) f r (omega arith) (r .ordered) (omega (arith, r .below, r .ordered))
@@ -40,5 +40,5 @@ module _ (v : ℕ → ℕ) (u : ℕ) where
   -- so from a front there is a run to the back found
   pub run-from : (f : ℕ) → Front v u f → Run v u f (backOf v u f)
   run-from f h =
-    let r = front-run v u f h in
-    subst (λ (x : ℕ). Run v u f x) (sym (back-of f (r .0) (r .1))) (r .1)
+      let r = front-run v u f h in
+      subst (λ (x : ℕ). Run v u f x) (sym (back-of f (r .0) (r .1))) (r .1)

@@ -76,32 +76,33 @@ module _ (l r : List ℕ) (ok : lentNumber (length l) (length r) ≡ 0) where
 
   start-linked : LinkedTable l′ 1 []
   start-linked =
-    record
-    { fronts = record
-      { zero-even = start-even 0
-      ; positive = omega arith
-      ; every = λ k f. omega (arith, alike-same k 0 (zero-only k (f .below)))
-      ; only = λ k h. on k h (ℕ-discrete k 0)
+      record {
+        fronts = record {
+          zero-even = start-even 0;
+          positive = omega arith;
+          every = λ k f. omega (arith, alike-same k 0 (zero-only k (f .below)));
+          only = λ k h. on k h (ℕ-discrete k 0);
+        };
+        seg = (zero-word (nextAt l′ 1) (nextAt l 0) (new-next l 0 0 held), zero-word (prevAt l′ 1) (prevAt l 0) (new-prev l 0 0 held));
+        ends = λ f b x.
+            let e : b ≡ 0 = omega (arith, x .below) in
+            let g : f ≡ 0 = omega (arith, x .below, x .ordered) in
+            let z = zero-word (otherEndAt l′ 1) (otherEndAt l 0) (new-other-end l 0 0 held) in
+            (ap (otherEndAt l′ 1) g ∙ z ∙ sym e, ap (otherEndAt l′ 1) e ∙ z ∙ sym g);
       }
-    ; seg = (zero-word (nextAt l′ 1) (nextAt l 0) (new-next l 0 0 held), zero-word (prevAt l′ 1) (prevAt l 0) (new-prev l 0 0 held))
-    ; ends = λ f b x.
-        let e : b ≡ 0 = omega (arith, x .below) in
-        let g : f ≡ 0 = omega (arith, x .below, x .ordered) in
-        let z = zero-word (otherEndAt l′ 1) (otherEndAt l 0) (new-other-end l 0 0 held) in
-        (ap (otherEndAt l′ 1) g ∙ z ∙ sym e, ap (otherEndAt l′ 1) e ∙ z ∙ sym g)
-    }
     where
       zero-word : (f g : ℕ → ℕ) → f ≡ put g 0 0 → f 0 ≡ 0
       zero-word f g e = ap (λ (h : ℕ → ℕ). h 0) e ∙ put-same g 0 0 0 refl
+
       on : (k : ℕ) → 1 ≤ times k (0 ∷ []) → Dec (k ≡ 0) → Front (versionAt l′ 1) 1 k
       on k h (yes e) = record { below = omega arith; vacant = start-even k; starts = λ j q. absurd (omega arith) }
       on k h (no n) = absurd (omega (arith, alike-other k 0 n))
 
   start-shows : Shows l′ r′ fresh (startOn (lentOf l))
   start-shows =
-    subst (Shows l′ r′ fresh) (cc (start-versions, start-rows, length-slot l 0 0))
+      subst (Shows l′ r′ fresh) (cc (start-versions, start-rows, length-slot l 0 0))
       (shows l′ r′ fresh [] (fits-shape l′ r′ fresh (same-lent l r l′ r′ ok (length-slot l 0 0) (length-row r 0 zeroRow)) (omega arith) (omega (arith, t .some, length-slot l 0 0)) (omega arith))
-        start-linked (sym (odd-none (versionAt l′ 1) 1 (λ k _. start-even k))))
+      start-linked (sym (odd-none (versionAt l′ 1) 1 (λ k _. start-even k))))
 
 pub start-does : (l r : List ℕ) (hd : Header) → lentNumber (length l) (length r) ≡ 0 → Does (startRule l r hd) (stays (startOn (lentOf l)) done)
 unfolding startRule unless
@@ -121,40 +122,42 @@ module _ (l r bytes : List ℕ) (e : rebuildNumber l r bytes ≡ 0) where
   tested : Tested
   unfolding rebuildNumber
   tested =
-    let e₄ = passed _ _ _ (omega arith) e in
-    let e₃ = passed _ _ _ (omega arith) (e₄ .0) in
-    let e₂ = passed _ _ _ (omega arith) (e₃ .0) in
-    let e₁ = passed _ _ _ (omega arith) (e₂ .0) in
-    let odd : versionAt l n 0 % 2 ≡ 1 → ⊥ = eqb-false _ _ (e₄ .1) in
-    let none : n ≡ 0 → ⊥ = eqb-false _ _ (e₁ .1) in
-    record
-    { may-be-lent = e₁ .0
-    ; some = omega (arith, none)
-    ; within = ltb-false _ _ (e₂ .1)
-    ; even = omega (arith, odd)
-    }
+      let e₄ = passed _ _ _ (omega arith) e in
+      let e₃ = passed _ _ _ (omega arith) (e₄ .0) in
+      let e₂ = passed _ _ _ (omega arith) (e₃ .0) in
+      let e₁ = passed _ _ _ (omega arith) (e₂ .0) in
+      let odd : versionAt l n 0 % 2 ≡ 1 → ⊥ = eqb-false _ _ (e₄ .1) in
+      let none : n ≡ 0 → ⊥ = eqb-false _ _ (e₁ .1) in
+      record {
+        may-be-lent = e₁ .0;
+        some = omega (arith, none);
+        within = ltb-false _ _ (e₂ .1);
+        even = omega (arith, odd);
+      }
 
   rebuild-shows : Shows (relinked l n .links) (clearedRows l n n r) (relinked l n .header)
-    (rebuildOn (versionAt l n) (rowAt r n) n (rising (versionAt l n) n) (lentOf l))
+      (rebuildOn (versionAt l n) (rowAt r n) n (rising (versionAt l n) n) (lentOf l))
   unfolding relinked vacantAt
   rebuild-shows =
-    subst (Shows (relinked l n .links) (clearedRows l n n r) (rebuilt n (oddCount (versionAt l n) n)))
+      subst (Shows (relinked l n .links) (clearedRows l n n r) (rebuilt n (oddCount (versionAt l n) n)))
       (cc (relinked-versions l n n, fun-ext (cleared-row l r n row-room), relinked-length l n))
       (shows (relinked l n .links) (clearedRows l n n r) (rebuilt n (oddCount (versionAt l n) n)) (rising (versionAt l n) n)
-        (fits-shape _ _ _ (same-lent l r (relinked l n .links) (clearedRows l n n r) (p .may-be-lent) (relinked-length l n) (cleared-length l r n n)) (p .some)
-          (omega (arith, p .within, relinked-length l n))
-          (odd-but-one (versionAt l n) n 0 (p .some) (p .even)))
-        (relinked-linked l n (p .some) link-room (p .even))
-        (ap (λ (v : ℕ → ℕ). oddCount v n) (sym (relinked-versions l n n))))
+      (fits-shape _ _ _ (same-lent l r (relinked l n .links) (clearedRows l n n r) (p .may-be-lent) (relinked-length l n) (cleared-length l r n n)) (p .some)
+      (omega (arith, p .within, relinked-length l n))
+      (odd-but-one (versionAt l n) n 0 (p .some) (p .even)))
+      (relinked-linked l n (p .some) link-room (p .even))
+      (ap (λ (v : ℕ → ℕ). oddCount v n) (sym (relinked-versions l n n))))
     where
       p : Tested
       p = tested
+
       link-room : n * linkWords ≤ length l
       link-room = let t = lent (length l) (length r) (tested .may-be-lent) in omega (arith, tested .within, t .link-words)
+
       row-room : n * rowWords ≤ length r
       row-room = let t = lent (length l) (length r) (tested .may-be-lent) in omega (arith, tested .within, t .row-words)
 
   pub rebuild-does : (hd : Header) → Does (rebuildRule l r hd bytes)
-    (stays (rebuildOn (versionAt l n) (rowAt r n) n (rising (versionAt l n) n) (lentOf l)) done)
+      (stays (rebuildOn (versionAt l n) (rowAt r n) n (rising (versionAt l n) n) (lentOf l)) done)
   unfolding rebuildRule unless
   rebuild-does hd = simp (eq-eqb _ 0 e) (record { answer = refl; row = refl; shows = rebuild-shows })

@@ -71,30 +71,30 @@ room-simulates = room-does
 
 -- one machine: one answer, one machine after it
 pub one-answer : (call : List ℕ → List ℕ → Header → Outcome) (step : Machine → Step) → Simulates call step →
-  (l r l′ r′ : List ℕ) (hd hd′ : Header) (m : Machine) → Shows l r hd m → Shows l′ r′ hd′ m → Alike (call l r hd) (call l′ r′ hd′) (step m .machine)
+    (l r l′ r′ : List ℕ) (hd hd′ : Header) (m : Machine) → Shows l r hd m → Shows l′ r′ hd′ m → Alike (call l r hd) (call l′ r′ hd′) (step m .machine)
 one-answer call step sim l r l′ r′ hd hd′ m s t =
-  let d = sim l r hd m s in
-  let e = sim l′ r′ hd′ m t in
-  record
-  { answer = d .answer ∙ sym (e .answer)
-  ; row = d .row ∙ sym (e .row)
-  ; header = header-is _ _ _ _ (d .shows) ∙ sym (header-is _ _ _ _ (e .shows))
-  ; shows = d .shows
-  ; shows′ = e .shows
-  }
+    let d = sim l r hd m s in
+    let e = sim l′ r′ hd′ m t in
+    record {
+      answer = d .answer ∙ sym (e .answer);
+      row = d .row ∙ sym (e .row);
+      header = header-is _ _ _ _ (d .shows) ∙ sym (header-is _ _ _ _ (e .shows));
+      shows = d .shows;
+      shows′ = e .shows;
+    }
 
 -- words inside a run and link words of occupied slots mean nothing: sound tables with the same versions, and the same next at the
 -- fronts of runs, are one machine
 pub same-machine : (l l′ r : List ℕ) (hd : Header) (s : Sound l hd) (t : Sound l′ hd) → length l ≡ length l′ →
-  ((i : ℕ) → versionAt l (hd .used) i ≡ versionAt l′ (hd .used) i) →
-  ((i : ℕ) → Front (versionAt l (hd .used)) (hd .used) i → nextAt l (hd .used) i ≡ nextAt l′ (hd .used) i) →
-  machineOf l r hd (s .circle .after) ≡ machineOf l′ r hd (t .circle .after)
+    ((i : ℕ) → versionAt l (hd .used) i ≡ versionAt l′ (hd .used) i) →
+    ((i : ℕ) → Front (versionAt l (hd .used)) (hd .used) i → nextAt l (hd .used) i ≡ nextAt l′ (hd .used) i) →
+    machineOf l r hd (s .circle .after) ≡ machineOf l′ r hd (t .circle .after)
 same-machine l l′ r hd s t e v n =
-  let L = linked l hd s in
-  let M = linked l′ hd t in
-  let chains = seg-agree (nextAt l (hd .used)) (prevAt l (hd .used)) (nextAt l′ (hd .used)) (prevAt l′ (hd .used)) 0 (s .circle .after) (t .circle .after) 0 (L .seg) (M .seg)
+    let L = linked l hd s in
+    let M = linked l′ hd t in
+    let chains = seg-agree (nextAt l (hd .used)) (prevAt l (hd .used)) (nextAt l′ (hd .used)) (prevAt l′ (hd .used)) 0 (s .circle .after) (t .circle .after) 0 (L .seg) (M .seg)
     (off-zero _ _ _ (L .fronts)) (off-zero _ _ _ (M .fronts)) (λ k h. n k (s .circle .only k h)) in
-  cc (e, fun-ext v, chains)
+    cc (e, fun-ext v, chains)
 
 -- 2 is never given: the machine has no chain that names it
 abbrev NotTwo : ℕ → Type 0
@@ -103,7 +103,7 @@ NotTwo n = n ≢ damaged
 chain-never : (n k : ℕ) (t : Bool) → NotTwo n → NotTwo k → NotTwo (n ▸ (t, k))
 unfolding _▸_
 chain-never n k t h j =
-  by-pick NotTwo (eqb n 0) _ _ (λ _. by-pick NotTwo t k 0 (λ _. j) (λ _ e. absurd (omega arith))) (λ _. h)
+    by-pick NotTwo (eqb n 0) _ _ (λ _. by-pick NotTwo t k 0 (λ _. j) (λ _ e. absurd (omega arith))) (λ _. h)
 
 unless-never : (m : Machine) (n : ℕ) (s : Step) → NotTwo n → NotTwo (s .answer .number) → NotTwo (stepUnless m n s .answer .number)
 unless-never m n s h j = by-pick (λ (x : Step). NotTwo (x .answer .number)) (eqb n 0) s (stays m (refused n)) (λ _. j) (λ _. h)
@@ -117,37 +117,37 @@ unfolding keyNumberOn
 key-never n m k h = chain-never _ notLive _ (chain-never n evenVersion _ h (λ e. omega arith)) (λ e. omega arith)
 
 never : (call : List ℕ → List ℕ → Header → Outcome) (step : Machine → Step) → Simulates call step →
-  ((m : Machine) → NotTwo (step m .answer .number)) → NeverGives damaged call
+    ((m : Machine) → NotTwo (step m .answer .number)) → NeverGives damaged call
 never call step sim h l r hd e s q =
-  let m = machineOf l r hd (s .circle .after) in
-  h m (sym (ap (λ (v : Values). v .number) (sim l r hd m (checked-shows l r hd e s) .answer)) ∙ q)
+    let m = machineOf l r hd (s .circle .after) in
+    h m (sym (ap (λ (v : Values). v .number) (sim l r hd m (checked-shows l r hd e s) .answer)) ∙ q)
 
 pub insert-never-2 : (side : List ℕ) → NeverGives damaged (λ l r hd. insertRule l r hd side)
 unfolding insertOn insertNumberOn grownBy filledBy
 insert-never-2 side =
-  never _ (λ m. insertOn m side) (insert-simulates side) (λ m.
+    never _ (λ m. insertOn m side) (insert-simulates side) (λ m.
     unless-never m (insertNumberOn m side) _ (chain-never _ full _ (side-never _ _) (λ e. omega arith))
-      (by-pick (λ (x : Step). NotTwo (x .answer .number)) (eqb (place m) 0) (grownBy m side) (filledBy m side (place m)) (λ _ e. omega arith) (λ _ e. omega arith)))
+    (by-pick (λ (x : Step). NotTwo (x .answer .number)) (eqb (place m) 0) (grownBy m side) (filledBy m side (place m)) (λ _ e. omega arith) (λ _ e. omega arith)))
 
 pub remove-never-2 : (k : Key) → NeverGives damaged (λ l r hd. removeRule l r hd k)
 unfolding removeOn
 remove-never-2 k =
-  never _ (λ m. removeOn m k) (remove-simulates k) (λ m. unless-never m (keyNumberOn passes m k) _ (key-never passes m k (λ e. omega arith)) (λ e. omega arith))
+    never _ (λ m. removeOn m k) (remove-simulates k) (λ m. unless-never m (keyNumberOn passes m k) _ (key-never passes m k (λ e. omega arith)) (λ e. omega arith))
 
 pub replace-never-2 : (k : Key) (side : List ℕ) → NeverGives damaged (λ l r hd. replaceRule l r hd k side)
 unfolding replaceOn
 replace-never-2 k side =
-  never _ (λ m. replaceOn m k side) (replace-simulates k side) (λ m.
+    never _ (λ m. replaceOn m k side) (replace-simulates k side) (λ m.
     unless-never m (keyNumberOn (sideNumber passes (length side) rowWords) m k) _ (key-never _ m k (side-never _ _)) (λ e. omega arith))
 
 pub hop-never-2 : (c : ℕ) → NeverGives damaged (λ l r hd. hopRule l r hd c)
 unfolding hopOn
 hop-never-2 c =
-  never _ (λ m. stays m (hopOn m c)) (hop-simulates c) (λ m.
+    never _ (λ m. stays m (hopOn m c)) (hop-simulates c) (λ m.
     by-pick Fine (leb (m .used) c) _ _ (λ _ e. omega arith)
-      (λ _. by-pick Fine (occupiedBy (m .versions) (m .used) c) _ _ (λ _ e. omega arith)
-        (λ _. by-pick Fine (pastFront (m .versions) (m .used) c) _ _ (λ _ e. omega arith)
-          (λ _. by-pick Fine (eqb (backOf (m .versions) (m .used) c + 1) (m .used)) _ _ (λ _ e. omega arith) (λ _ e. omega arith)))))
+    (λ _. by-pick Fine (occupiedBy (m .versions) (m .used) c) _ _ (λ _ e. omega arith)
+    (λ _. by-pick Fine (pastFront (m .versions) (m .used) c) _ _ (λ _ e. omega arith)
+    (λ _. by-pick Fine (eqb (backOf (m .versions) (m .used) c + 1) (m .used)) _ _ (λ _ e. omega arith) (λ _ e. omega arith)))))
   where
     Fine : Values → Type 0
     Fine v = NotTwo (v .number)
@@ -155,7 +155,7 @@ hop-never-2 c =
 pub drain-never-2 : NeverGives damaged drainRule
 unfolding drainOn
 drain-never-2 =
-  never _ drainOn drain-simulates (λ m.
+    never _ drainOn drain-simulates (λ m.
     by-pick (λ (x : Step). NotTwo (x .answer .number)) (eqb (liveOf m) 0) _ _ (λ _ e. omega arith) (λ _ e. omega arith))
 
 pub clear-never-2 : NeverGives damaged clearRule
@@ -165,7 +165,7 @@ clear-never-2 = never _ clearOn clear-simulates (λ m e. omega arith)
 pub retain-never-2 : (bytes : List ℕ) → NeverGives damaged (λ l r hd. retainRule l r hd bytes)
 unfolding retainOn
 retain-never-2 bytes =
-  never _ (λ m. retainOn m bytes) (retain-simulates bytes) (λ m. unless-never m (sideNumber passes (length bytes) (m .used)) _ (side-never _ _) (λ e. omega arith))
+    never _ (λ m. retainOn m bytes) (retain-simulates bytes) (λ m. unless-never m (sideNumber passes (length bytes) (m .used)) _ (side-never _ _) (λ e. omega arith))
 
 pub check-never-2 : NeverGives damaged checkRule
 check-never-2 = never _ soundOn check-simulates (λ m e. omega arith)
@@ -175,5 +175,5 @@ room-never-2 = never _ roomOn room-simulates (λ m e. omega arith)
 
 pub key-number-never-2 : (l r : List ℕ) (hd : Header) → shapeNumber l r hd ≡ 0 → Sound l hd → (k : Key) → keyNumber l r hd k ≡ damaged → ⊥
 key-number-never-2 l r hd e s k q =
-  let m = machineOf l r hd (s .circle .after) in
-  key-never passes m k (λ z. omega arith) (sym (key-number-is l r hd m (checked-shows l r hd e s) k) ∙ q)
+    let m = machineOf l r hd (s .circle .after) in
+    key-never passes m k (λ z. omega arith) (sym (key-number-is l r hd m (checked-shows l r hd e s) k) ∙ q)

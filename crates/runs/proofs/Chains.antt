@@ -29,11 +29,11 @@ module _ (r : ℕ) where
   pub renamed-at : (i : ℕ) (a b : List ℕ) → times r (a ++ r ∷ b) ≤ 1 → renamed r i (a ++ r ∷ b) ≡ a ++ i ∷ b
   renamed-at i [] b h = simp (eq-eqb r r refl, renamed-none i b (omega (arith, alike-same r r refl)))
   renamed-at i (x ∷ a) b h =
-    let n = ne-eqb x r (λ q. omega (arith, alike-same r x (sym q), times-append r a (r ∷ b), alike-same r r refl)) in
-    simp (n, renamed-at i a b (omega arith))
+      let n = ne-eqb x r (λ q. omega (arith, alike-same r x (sym q), times-append r a (r ∷ b), alike-same r r refl)) in
+      simp (n, renamed-at i a b (omega arith))
 
   pub without-at : (a b : List ℕ) → times r (a ++ r ∷ b) ≤ 1 → without r (a ++ r ∷ b) ≡ a ++ b
   without-at [] b h = simp (eq-eqb r r refl, without-none b (omega (arith, alike-same r r refl)))
   without-at (x ∷ a) b h =
-    let n = ne-eqb x r (λ q. omega (arith, alike-same r x (sym q), times-append r a (r ∷ b), alike-same r r refl)) in
-    simp (n, without-at a b (omega arith))
+      let n = ne-eqb x r (λ q. omega (arith, alike-same r x (sym q), times-append r a (r ∷ b), alike-same r r refl)) in
+      simp (n, without-at a b (omega arith))

@@ -38,7 +38,7 @@ odd-most v (suc n) = omega (arith, odd-more v n, odd-most v n)
 pub odd-same : (v v′ : ℕ → ℕ) (n : ℕ) → ((k : ℕ) → k < n → v′ k ≡ v k) → oddCount v′ n ≡ oddCount v n
 odd-same v v′ zero h = omega (arith, odd-none-yet v, odd-none-yet v′)
 odd-same v v′ (suc n) h =
-  omega (arith, odd-more v n, odd-more v′ n, odd-same v v′ n (λ k q. h k (omega arith)), ap (λ (x : ℕ). x % 2) (h n (omega arith)))
+    omega (arith, odd-more v n, odd-more v′ n, odd-same v v′ n (λ k q. h k (omega arith)), ap (λ (x : ℕ). x % 2) (h n (omega arith)))
 
 -- one slot changes
 pub odd-change : (v v′ : ℕ → ℕ) (n i : ℕ) → i < n → ((k : ℕ) → k ≢ i → v′ k ≡ v k) → oddCount v′ n + v i % 2 ≡ oddCount v n + v′ i % 2
@@ -46,9 +46,9 @@ odd-change v v′ zero i l h = absurd (omega arith)
 odd-change v v′ (suc n) i l h = go (ℕ-discrete i n) (odd-change v v′ n i)
   where
     go : Dec (i ≡ n) → (i < n → ((k : ℕ) → k ≢ i → v′ k ≡ v k) → oddCount v′ n + v i % 2 ≡ oddCount v n + v′ i % 2)
-      → oddCount v′ (suc n) + v i % 2 ≡ oddCount v (suc n) + v′ i % 2
+        → oddCount v′ (suc n) + v i % 2 ≡ oddCount v (suc n) + v′ i % 2
     go (yes e) r = omega
-      (arith, odd-more v n, odd-more v′ n, odd-same v v′ n (λ k q. h k (λ t. omega arith)), ap (λ (x : ℕ). v x % 2) e, ap (λ (x : ℕ). v′ x % 2) e)
+        (arith, odd-more v n, odd-more v′ n, odd-same v v′ n (λ k q. h k (λ t. omega arith)), ap (λ (x : ℕ). v x % 2) e, ap (λ (x : ℕ). v′ x % 2) e)
     go (no m) r = omega (arith, odd-more v n, odd-more v′ n, r (omega arith) h, ap (λ (x : ℕ). x % 2) (h n (λ t. m (sym t))))
 
 -- a vacant slot does not count; nor do two
@@ -73,7 +73,7 @@ pub odd-full : (v : ℕ → ℕ) (n : ℕ) → 0 < n → v 0 % 2 ≡ 0 → ((k :
 odd-full v zero p z h = absurd (omega arith)
 odd-full v (suc zero) p z h = omega (arith, odd-more v 0, odd-none-yet v)
 odd-full v (suc (suc n)) p z h = omega
-  (arith, odd-more v (suc n), odd-full v (suc n) (omega arith) z (λ k a b. h k a (omega arith)), h (suc n) (omega arith) (omega arith))
+    (arith, odd-more v (suc n), odd-full v (suc n) (omega arith) z (λ k a b. h k a (omega arith)), h (suc n) (omega arith) (omega arith))
 
 -- an occupied slot counts
 pub odd-some : (v : ℕ → ℕ) (n i : ℕ) → i < n → v i % 2 ≡ 1 → 1 ≤ oddCount v n

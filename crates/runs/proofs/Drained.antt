@@ -31,8 +31,8 @@ use Rattle.runs.proofs.Removed.{remove-at-does}
 -- a table that is a machine has slot 0 in use, and vacant
 pub headed : (l r : List ℕ) (hd : Header) (m : Machine) → Shows l r hd m → Headed m
 headed l r hd m s =
-  let L = linked l hd (s .sound) in
-  subst Headed (s .same) (record { positive = L .fronts .positive; even = L .fronts .zero-even })
+    let L = linked l hd (s .sound) in
+    subst Headed (s .same) (record { positive = L .fronts .positive; even = L .fronts .zero-even })
 
 module _ (l r : List ℕ) (hd : Header) (m : Machine) (s : Shows l r hd m) where
   pub live-is : hd .live ≡ liveOf m
@@ -41,48 +41,48 @@ module _ (l r : List ℕ) (hd : Header) (m : Machine) (s : Shows l r hd m) where
   -- the lowest live slot is other_end(0) + 1
   pub lowest-is : otherEndAt l (hd .used) 0 + 1 ≡ lowest m
   lowest-is =
-    let z : Headed (machineOf l r hd (s .sound .circle .after)) = subst Headed (sym (s .same)) (headed l r hd m s) in
-    let L = linked l hd (s .sound) in
-    ap (λ (b : ℕ). b + 1) (L .ends 0 (backOf (versionAt l (hd .used)) (hd .used) 0) (zero-run (machineOf l r hd (s .sound .circle .after)) z) .0)
-    ∙ ap lowest (s .same)
+      let z : Headed (machineOf l r hd (s .sound .circle .after)) = subst Headed (sym (s .same)) (headed l r hd m s) in
+      let L = linked l hd (s .sound) in
+      ap (λ (b : ℕ). b + 1) (L .ends 0 (backOf (versionAt l (hd .used)) (hd .used) 0) (zero-run (machineOf l r hd (s .sound .circle .after)) z) .0)
+      ∙ ap lowest (s .same)
 
   -- it is in use and occupied where any row is live, and nothing below it is
   pub lowest-slot : 1 ≤ hd .live →
-    let q = otherEndAt l (hd .used) 0 + 1 in
-    (q < hd .used) × (versionAt l (hd .used) q % 2 ≡ 1) × ((i : ℕ) → i < q → versionAt l (hd .used) i % 2 ≡ 0)
+      let q = otherEndAt l (hd .used) 0 + 1 in
+      (q < hd .used) × (versionAt l (hd .used) q % 2 ≡ 1) × ((i : ℕ) → i < q → versionAt l (hd .used) i % 2 ≡ 0)
   lowest-slot h =
-    let n = machineOf l r hd (s .sound .circle .after) in
-    let z : Headed n = subst Headed (sym (s .same)) (headed l r hd m s) in
-    let t = lowest-is ∙ ap lowest (sym (s .same)) in
-    let w = lowest-live n z (omega (arith, s .sound .live-count .counted)) in
-    rw t (w .0, w .1, none-lower n z)
+      let n = machineOf l r hd (s .sound .circle .after) in
+      let z : Headed n = subst Headed (sym (s .same)) (headed l r hd m s) in
+      let t = lowest-is ∙ ap lowest (sym (s .same)) in
+      let w = lowest-live n z (omega (arith, s .sound .live-count .counted)) in
+      rw t (w .0, w .1, none-lower n z)
 
   pub drain-does : Does (drainRule l r hd) (drainOn m)
   unfolding drainRule drainOn
   drain-does =
-    unless-does l r hd m s (entryNumber l r hd) 0 (entry-passes l r hd (s .shaped) (s .sound .zero-even .even))
+      unless-does l r hd m s (entryNumber l r hd) 0 (entry-passes l r hd (s .shaped) (s .sound .zero-even .even))
       (pick (eqb (hd .live) 0) (plain done hd l r) (removeAt l r hd (otherEndAt l (hd .used) 0 + 1))) (drainOn m)
       (λ _. subst (λ (n : ℕ). Does (pick (eqb (hd .live) 0) (plain done hd l r) (removeAt l r hd (otherEndAt l (hd .used) 0 + 1))) (pick (eqb n 0) (stays m done) (takenOut m (keyOf m (lowest m))))) live-is
-        (by-test (λ (t : Bool). Does (pick t (plain done hd l r) (removeAt l r hd (otherEndAt l (hd .used) 0 + 1))) (pick t (stays m done) (takenOut m (keyOf m (lowest m))))) (eqb (hd .live) 0)
-          (λ _. record { answer = refl; row = refl; shows = s })
-          (λ z.
-            let some : hd .live ≢ 0 = eqb-false (hd .live) 0 z in
-            let w = lowest-live m (headed l r hd m s) (omega (arith, some, live-is)) in
-            subst (λ (q : ℕ). Does (removeAt l r hd q) (takenOut m (keyOf m (lowest m)))) (sym lowest-is)
-              (remove-at-does l r hd m s (lowest m) (occupied-yes (m .versions) (m .used) (lowest m) (w .0) (w .1))))))
+      (by-test (λ (t : Bool). Does (pick t (plain done hd l r) (removeAt l r hd (otherEndAt l (hd .used) 0 + 1))) (pick t (stays m done) (takenOut m (keyOf m (lowest m))))) (eqb (hd .live) 0)
+      (λ _. record { answer = refl; row = refl; shows = s })
+      (λ z.
+      let some : hd .live ≢ 0 = eqb-false (hd .live) 0 z in
+      let w = lowest-live m (headed l r hd m s) (omega (arith, some, live-is)) in
+      subst (λ (q : ℕ). Does (removeAt l r hd q) (takenOut m (keyOf m (lowest m)))) (sym lowest-is)
+      (remove-at-does l r hd m s (lowest m) (occupied-yes (m .versions) (m .used) (lowest m) (w .0) (w .1))))))
 
 -- the drain step to the end: as many steps as rows are live, and one that answers done
 pub drains-do : (n : ℕ) (o : Outcome) (m : Machine) → Shows (o .links) (o .rows) (o .header) m → liveOf m ≡ n →
-  Does (drainTimes (n + 1) o) (stays (drainsOn n m) done)
+    Does (drainTimes (n + 1) o) (stays (drainsOn n m) done)
 unfolding drainTimes drainsOn drainOn
 drains-do zero o m s e =
-  let d = drain-does (o .links) (o .rows) (o .header) m s in
-  subst (Does (drainRule (o .links) (o .rows) (o .header))) (simp (eq-eqb (liveOf m) 0 e)) d
+    let d = drain-does (o .links) (o .rows) (o .header) m s in
+    subst (Does (drainRule (o .links) (o .rows) (o .header))) (simp (eq-eqb (liveOf m) 0 e)) d
 drains-do (suc n) o m s e =
-  let d = drain-does (o .links) (o .rows) (o .header) m s in
-  let w = lowest-live m (headed _ _ _ m s) (omega arith) in
-  let q : drainOn m ≡ takenOut m (keyOf m (lowest m)) = simp (ne-eqb (liveOf m) 0 (λ t. omega arith)) in
-  let one = freed-count m (lowest m) (occupied-yes (m .versions) (m .used) (lowest m) (w .0) (w .1)) in
-  let f : suc (n + 1) ≡ suc n + 1 = omega arith in
-  subst (λ (k : ℕ). Does (drainTimes k o) (stays (drainsOn (suc n) m) done)) f
+    let d = drain-does (o .links) (o .rows) (o .header) m s in
+    let w = lowest-live m (headed _ _ _ m s) (omega arith) in
+    let q : drainOn m ≡ takenOut m (keyOf m (lowest m)) = simp (ne-eqb (liveOf m) 0 (λ t. omega arith)) in
+    let one = freed-count m (lowest m) (occupied-yes (m .versions) (m .used) (lowest m) (w .0) (w .1)) in
+    let f : suc (n + 1) ≡ suc n + 1 = omega arith in
+    subst (λ (k : ℕ). Does (drainTimes k o) (stays (drainsOn (suc n) m) done)) f
     (drains-do n (drainRule (o .links) (o .rows) (o .header)) (drainOn m .machine) (d .shows) (omega (arith, ap (λ (t : Step). liveOf (t .machine)) q)))

@@ -46,10 +46,10 @@ module _ (m : Machine) (z : Headed m) where
   pub freed-headed : (i : ℕ) → i ≢ 0 → Headed (freed m i)
   unfolding freed
   freed-headed i n =
-    record
-    { positive = z .positive
-    ; even = ap (λ (x : ℕ). x % 2) (put-other (m .versions) i (rise (m .versions i)) 0 (λ t. n (sym t))) ∙ z .even
-    }
+      record {
+        positive = z .positive;
+        even = ap (λ (x : ℕ). x % 2) (put-other (m .versions) i (rise (m .versions i)) 0 (λ t. n (sym t))) ∙ z .even;
+      }
 
 pub freed-used : (m : Machine) (i : ℕ) → freed m i .used ≡ m .used
 unfolding freed
@@ -62,8 +62,8 @@ strikeAt chosen i m = pick (both (occupiedBy (m .versions) (m .used) i) (chosen 
 strike-more : (chosen : ℕ → Bool) (n : ℕ) (m : Machine) → strike chosen (suc n) m .machine ≡ strikeAt chosen n (strike chosen n m .machine)
 unfolding strike strikeIf
 strike-more chosen n m =
-  let s = strike chosen n m in
-  by-test (λ (t : Bool). pick t (record { count = s .count + 1; machine = freed (s .machine) n }) s .machine ≡ pick t (freed (s .machine) n) (s .machine))
+    let s = strike chosen n m in
+    by-test (λ (t : Bool). pick t (record { count = s .count + 1; machine = freed (s .machine) n }) s .machine ≡ pick t (freed (s .machine) n) (s .machine))
     (both (occupiedBy (s .machine .versions) (s .machine .used) n) (chosen n)) (λ _. refl) (λ _. refl)
 
 strike-start : (chosen : ℕ → Bool) (m : Machine) → strike chosen 0 m .machine ≡ m
@@ -74,8 +74,8 @@ strike-start chosen m = refl
 strike-vacant : (chosen : ℕ → Bool) (n : ℕ) (m : Machine) → ((i : ℕ) → i < n → m .versions i % 2 ≡ 0) → strike chosen n m .machine ≡ m
 strike-vacant chosen zero m h = strike-start chosen m
 strike-vacant chosen (suc n) m h =
-  strike-more chosen n m ∙ ap (strikeAt chosen n) (strike-vacant chosen n m (λ i l. h i (omega arith)))
-  ∙ simp (occupied-no (m .versions) (m .used) n (λ _. h n (omega arith)))
+    strike-more chosen n m ∙ ap (strikeAt chosen n) (strike-vacant chosen n m (λ i l. h i (omega arith)))
+    ∙ simp (occupied-no (m .versions) (m .used) n (λ _. h n (omega arith)))
 
 -- once the lowest live slot is gone, none is live as far as there
 gone-too : (m : Machine) → Headed m → 1 ≤ liveOf m → (i : ℕ) → i < suc (lowest m) → freed m (lowest m) .versions i % 2 ≡ 0
@@ -84,24 +84,24 @@ gone-too m z h i l = go (ℕ-discrete i (lowest m))
   where
     go : Dec (i ≡ lowest m) → put (m .versions) (lowest m) (rise (m .versions (lowest m))) i % 2 ≡ 0
     go (yes t) =
-      ap (λ (x : ℕ). x % 2) (put-same (m .versions) (lowest m) (rise (m .versions (lowest m))) i t) ∙ rise-even (m .versions (lowest m)) (lowest-live m z h .1)
+        ap (λ (x : ℕ). x % 2) (put-same (m .versions) (lowest m) (rise (m .versions (lowest m))) i t) ∙ rise-even (m .versions (lowest m)) (lowest-live m z h .1)
     go (no t) =
-      ap (λ (x : ℕ). x % 2) (put-other (m .versions) (lowest m) (rise (m .versions (lowest m))) i t) ∙ none-lower m z i (omega arith)
+        ap (λ (x : ℕ). x % 2) (put-other (m .versions) (lowest m) (rise (m .versions (lowest m))) i t) ∙ none-lower m z i (omega arith)
 
 -- the lowest live slot goes first
 strike-first : (m : Machine) → Headed m → 1 ≤ liveOf m → (d n : ℕ) → n ≡ suc (lowest m) + d → strike all n m .machine ≡ strike all n (freed m (lowest m)) .machine
 strike-first m z h zero n e =
-  let f : n ≡ suc (lowest m) = omega arith in
-  let w = lowest-live m z h in
-  let taken : strikeAt all (lowest m) m ≡ freed m (lowest m) = simp (occupied-yes (m .versions) (m .used) (lowest m) (w .0) (w .1)) in
-  subst (λ (k : ℕ). strike all k m .machine ≡ strike all k (freed m (lowest m)) .machine) (sym f)
-    ( strike-more all (lowest m) m
+    let f : n ≡ suc (lowest m) = omega arith in
+    let w = lowest-live m z h in
+    let taken : strikeAt all (lowest m) m ≡ freed m (lowest m) = simp (occupied-yes (m .versions) (m .used) (lowest m) (w .0) (w .1)) in
+    subst (λ (k : ℕ). strike all k m .machine ≡ strike all k (freed m (lowest m)) .machine) (sym f)
+    (strike-more all (lowest m) m
     ∙ ap (strikeAt all (lowest m)) (strike-vacant all (lowest m) m (none-lower m z))
     ∙ taken
     ∙ sym (strike-vacant all (suc (lowest m)) (freed m (lowest m)) (gone-too m z h)))
 strike-first m z h (suc d) zero e = absurd (omega arith)
 strike-first m z h (suc d) (suc n) e =
-  strike-more all n m ∙ ap (strikeAt all n) (strike-first m z h d n (omega arith)) ∙ sym (strike-more all n (freed m (lowest m)))
+    strike-more all n m ∙ ap (strikeAt all n) (strike-first m z h d n (omega arith)) ∙ sym (strike-more all n (freed m (lowest m)))
 
 -- to the end: every live slot, in rising order
 pub drained-all : (n : ℕ) (m : Machine) → Headed m → liveOf m ≡ n → drainsOn n m ≡ strike all (m .used) m .machine
@@ -112,9 +112,9 @@ drained-all zero m z e = sym (strike-vacant all (m .used) m (λ i l. even i l (�
     even i l (yes q) = q
     even i l (no q) = absurd (omega (arith, odd-some (m .versions) (m .used) i l (omega arith)))
 drained-all (suc n) m z e =
-  let w = lowest-live m z (omega arith) in
-  let one = freed-count m (lowest m) (occupied-yes (m .versions) (m .used) (lowest m) (w .0) (w .1)) in
-  simp (ne-eqb (liveOf m) 0 (λ t. omega arith))
-    ( drained-all n (freed m (lowest m)) (freed-headed m z (lowest m) (λ t. omega arith)) (omega arith)
+    let w = lowest-live m z (omega arith) in
+    let one = freed-count m (lowest m) (occupied-yes (m .versions) (m .used) (lowest m) (w .0) (w .1)) in
+    simp (ne-eqb (liveOf m) 0 (λ t. omega arith))
+    (drained-all n (freed m (lowest m)) (freed-headed m z (lowest m) (λ t. omega arith)) (omega arith)
     ∙ ap (λ (k : ℕ). strike all k (freed m (lowest m)) .machine) (freed-used m (lowest m))
     ∙ sym (strike-first m z (omega arith) (m .used - suc (lowest m)) (m .used) (omega (arith, w .0))))

@@ -20,7 +20,7 @@ use Rattle.runs.specs.Machine.{first, later, backOf}
 use Rattle.runs.proofs.Words.{holds, holds-below, words, new-words}
 use Rattle.runs.proofs.Segments.{Seg}
 use Rattle.runs.proofs.Backs.{back-of}
-use Rattle.runs.proofs.Linked.{Linked, head-run, insert-grow, insert-last, insert-more}
+use Rattle.runs.proofs.Linked.{Linked, first-run, new-slot, take-last, take-back}
 use Rattle.runs.proofs.Followed.{insert-h, insert-b, insert-n}
 use Rattle.runs.proofs.Sound.{LinkedTable}
 
@@ -65,17 +65,14 @@ module _ (l : List ℕ) (u : ℕ) (after : List ℕ) (L : LinkedTable l u after)
       at [] g = g .0
       at (x ∷ s) g = g .0
 
-  pub first-run : Run v u h b
-  first-run = head-run v n p e u after L
-
   pub place-is : otherEndAt l u (nextAt l u 0) ≡ backOf (versionAt l u) u (first after)
-  place-is = sym (back-of v u h b first-run) ∙ ap (backOf v u) first-is
+  place-is = sym (back-of v u h b (first-run v n p e u after L)) ∙ ap (backOf v u) first-is
 
   pub grown-linked : (u + 1) * linkWords ≤ length l → LinkedTable (newSlot l u 1) (u + 1) after
   grown-linked fits =
-    let f : suc u ≡ u + 1 = omega arith in
-    simp (new-words, holds-below l (u + 1) u fits (omega arith))
-      (subst (λ (k : ℕ). Linked (put v u 1) (put n u 0) (put p u 0) (put e u 0) k after) f (insert-grow v n p e u after L 1 refl))
+      let f : suc u ≡ u + 1 = omega arith in
+      simp (new-words, holds-below l (u + 1) u fits (omega arith))
+      (subst (λ (k : ℕ). Linked (put v u 1) (put n u 0) (put p u 0) (put e u 0) k after) f (new-slot v n p e u after L 1 refl))
 
   module _ (fits : u * linkWords ≤ length l) (w : ℕ) (odd : w % 2 ≡ 1) (some : otherEndAt l u (nextAt l u 0) ≢ 0) where
     has : (k : ℕ) → k < u → holds l u k ≡ true
@@ -84,24 +81,24 @@ module _ (l : List ℕ) (u : ℕ) (after : List ℕ) (L : LinkedTable l u after)
     last-linked : h ≡ b → LinkedTable (setVersion (takeLast l (n h)) b w) u (later after)
     unfolding takeLast
     last-linked q =
-      let f = insert-n v n p e u after L in
-      rw (sym q) (simp (words, has 0 (omega (arith, L .fronts .positive)), has (n h) (f .0), has h (insert-h v n p e u after L .0))
-        (insert-last v n p e u after L w odd h (later after) (begins after h first-is (λ t. some (sym q ∙ t))) (sym q)))
+        let f = insert-n v n p e u after L in
+        rw (sym q) (simp (words, has 0 (omega (arith, L .fronts .positive)), has (n h) (f .0), has h (insert-h v n p e u after L .0))
+        (take-last v n p e u after L w odd h (later after) (begins after h first-is (λ t. some (sym q ∙ t))) (sym q)))
 
     back-linked : (d : ℕ) → suc d ≡ b → h ≢ b → LinkedTable (setVersion (takeBack l h b) b w) u after
     unfolding takeBack
     back-linked d q m =
-      let f = insert-b v n p e u after L in
-      let o : h ≤ d = omega (arith, f .1) in
-      let c : b - 1 ≡ d = omega arith in
-      rw (c, sym q) (simp (words, has d (omega (arith, f .0 .0)), has h (insert-h v n p e u after L .0), has (suc d) (omega (arith, f .0 .0)))
-        (insert-more v n p e u after L w odd d q o))
+        let f = insert-b v n p e u after L in
+        let o : h ≤ d = omega (arith, f .1) in
+        let c : b - 1 ≡ d = omega arith in
+        rw (c, sym q) (simp (words, has d (omega (arith, f .0 .0)), has h (insert-h v n p e u after L .0), has (suc d) (omega (arith, f .0 .0)))
+        (take-back v n p e u after L w odd d q o))
 
     -- the first run without its back, whichever case it is
     pub filled-linked : LinkedTable (setVersion (shortened l (insertLinks l u)) b w) u (pick (eqb (first after) b) (later after) after)
     unfolding shortened
     filled-linked =
-      rw (sym first-is)
+        rw (sym first-is)
         (by-test (λ (t : Bool). LinkedTable (setVersion (pick t (takeLast l (n h)) (takeBack l h b)) b w) u (pick t (later after) after)) (eqb h b)
-          (λ q. last-linked (eqb-true h b q))
-          (λ q. back-linked (b - 1) (omega arith) (eqb-false h b q)))
+        (λ q. last-linked (eqb-true h b q))
+        (λ q. back-linked (b - 1) (omega arith) (eqb-false h b q)))

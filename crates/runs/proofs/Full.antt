@@ -54,15 +54,17 @@ module _ (v : ℕ → ℕ) (u : ℕ) (l : List ℕ) (i : Fronts v u l) where
     where
       starts-at-zero : first l ≡ 0
       starts-at-zero = omega (arith, first-run .ordered)
+
       zero-run : Run v u 0 0
       zero-run = subst (λ (x : ℕ). Run v u x 0) starts-at-zero (subst (λ (x : ℕ). Run v u (first l) x) z first-run)
+
       go : Dec (v k % 2 ≡ 0) → v k % 2 ≡ 1
       go (no n) = omega arith
       go (yes e) =
-        let d = down v k e in
-        let f : Front v u (d .0) = record { below = omega (arith, d .1); vacant = d .3 (d .0) (omega arith) (d .1); starts = d .2 } in
-        let c = ap (λ (m : List ℕ). times (d .0) (0 ∷ m)) (no-chain starts-at-zero) in
-        absurd (fin (d .0) (d .3) (ℕ-discrete (d .0) 0) (omega (arith, i .every (d .0) f, c)))
+          let d = down v k e in
+          let f : Front v u (d .0) = record { below = omega (arith, d .1); vacant = d .3 (d .0) (omega arith) (d .1); starts = d .2 } in
+          let c = ap (λ (m : List ℕ). times (d .0) (0 ∷ m)) (no-chain starts-at-zero) in
+          absurd (fin (d .0) (d .3) (ℕ-discrete (d .0) 0) (omega (arith, i .every (d .0) f, c)))
         where
           fin : (f : ℕ) → ((m : ℕ) → f ≤ m → m ≤ k → v m % 2 ≡ 0) → Dec (f ≡ 0) → 1 ≤ times f (0 ∷ []) → ⊥
           fin f g (yes t) c = omega (arith, g 1 (omega arith) (omega arith), zero-run .stops (omega arith))
@@ -90,13 +92,13 @@ module _ (l r : List ℕ) (hd : Header) (m : Machine) (s : Shows l r hd m) (side
   pub full-where : length side ≡ rowWords → hd .used ≡ lentOf l → NoneVacant → insertRule l r hd side .answer ≡ refused full
   unfolding insertOn insertNumberOn sideNumber _▸_
   full-where whole e h =
-    let u : m .used ≡ m .lent = ap (λ (x : Machine). x .used) (sym (s .same)) ∙ e ∙ ap (λ (x : Machine). x .lent) (s .same) in
-    insert-does l r hd m s side .answer ∙ simp (eq-eqb _ _ whole, eq-eqb _ _ (place-zero h), eq-eqb _ _ u)
+      let u : m .used ≡ m .lent = ap (λ (x : Machine). x .used) (sym (s .same)) ∙ e ∙ ap (λ (x : Machine). x .lent) (s .same) in
+      insert-does l r hd m s side .answer ∙ simp (eq-eqb _ _ whole, eq-eqb _ _ (place-zero h), eq-eqb _ _ u)
 
   pub full-there : insertRule l r hd side .answer ≡ refused full → (hd .used ≡ lentOf l) × NoneVacant
   full-there e =
-    let f = full-only l r hd side e in
-    let L = linked l hd (s .sound) in
-    let b : backOf (versionAt l (hd .used)) (hd .used) (first (s .sound .circle .after)) ≡ 0 =
+      let f = full-only l r hd side e in
+      let L = linked l hd (s .sound) in
+      let b : backOf (versionAt l (hd .used)) (hd .used) (first (s .sound .circle .after)) ≡ 0 =
       sym (place-is l (hd .used) (s .sound .circle .after) L) ∙ f .0 in
-    (f .1, none-vacant (versionAt l (hd .used)) (hd .used) (s .sound .circle .after) fronts-are b)
+      (f .1, none-vacant (versionAt l (hd .used)) (hd .used) (s .sound .circle .after) fronts-are b)

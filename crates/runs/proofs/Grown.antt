@@ -13,36 +13,35 @@ use Rattle.runs.proofs.Fronts.{Fronts, Ended, fronts-once, same-times}
 
 -- Slot u, occupied, comes into use
 module _ (v v′ : ℕ → ℕ) (u : ℕ) (odd′ : v′ u % 2 ≡ 1) (same : (k : ℕ) → k < u → v′ k ≡ v k) where
+  same-parity : (k : ℕ) → k < u → v′ k % 2 ≡ v k % 2
+  same-parity k n = ap (λ (x : ℕ). x % 2) (same k n)
 
-  sg : (k : ℕ) → k < u → v′ k % 2 ≡ v k % 2
-  sg k n = ap (λ (x : ℕ). x % 2) (same k n)
-
-  pub grow-front-back : (k : ℕ) → Front v′ (suc u) k → Front v u k
-  grow-front-back k f =
-    let n : k < u = lt (ℕ-discrete k u) in
-    record { below = n; vacant = omega (arith, f .vacant, sg k n); starts = λ m e. omega (arith, f .starts m e, sg m (omega arith)) }
+  pub front-before : (k : ℕ) → Front v′ (suc u) k → Front v u k
+  front-before k f =
+      let n : k < u = lt (ℕ-discrete k u) in
+      record { below = n; vacant = omega (arith, f .vacant, same-parity k n); starts = λ m e. omega (arith, f .starts m e, same-parity m (omega arith)) }
     where
       lt : Dec (k ≡ u) → k < u
       lt (yes e) = absurd (omega (arith, f .vacant, par v′ k u e))
       lt (no n) = omega (arith, f .below)
 
-  pub grow-front-on : (k : ℕ) → Front v u k → Front v′ (suc u) k
-  grow-front-on k f =
-    record { below = omega (arith, f .below); vacant = omega (arith, f .vacant, sg k (f .below)); starts = λ m e. omega (arith, f .starts m e, sg m (omega (arith, f .below))) }
+  pub front-still : (k : ℕ) → Front v u k → Front v′ (suc u) k
+  front-still k f =
+      record { below = omega (arith, f .below); vacant = omega (arith, f .vacant, same-parity k (f .below)); starts = λ m e. omega (arith, f .starts m e, same-parity m (omega (arith, f .below))) }
 
-  pub grow-inv : (l : List ℕ) → Fronts v u l → Fronts v′ (suc u) l
-  grow-inv l i = record
-    { zero-even = omega (arith, i .zero-even, sg 0 (i .positive))
-    ; positive = omega arith
-    ; every = λ k f. i .every k (grow-front-back k f)
-    ; only = λ k h. grow-front-on k (i .only k h)
-    }
+  pub grown-fronts : (l : List ℕ) → Fronts v u l → Fronts v′ (suc u) l
+  grown-fronts l i = record {
+    zero-even = omega (arith, i .zero-even, same-parity 0 (i .positive));
+    positive = omega arith;
+    every = λ k f. i .every k (front-before k f);
+    only = λ k h. front-still k (i .only k h);
+  }
 
-  pub grow-ends : (e e′ : ℕ → ℕ) → ((k : ℕ) → k < u → e′ k ≡ e k) → Ended v u e → Ended v′ (suc u) e′
-  grow-ends e e′ se en f b r =
-    let n : b < u = lt (ℕ-discrete b u) in
-    let o = en f b (make-run (λ m q. omega (arith, r .front .starts m q, sg m (omega (arith, r .ordered)))) (r .ordered) (λ k p q. omega (arith, r .vacant k p q, sg k (omega arith))) (n) (λ q. omega (arith, r .stops (omega arith), sg (suc b) q))) in
-    (se f (omega (arith, r .ordered)) ∙ o .0, se b n ∙ o .1)
+  pub grown-ends : (e e′ : ℕ → ℕ) → ((k : ℕ) → k < u → e′ k ≡ e k) → Ended v u e → Ended v′ (suc u) e′
+  grown-ends e e′ se en f b r =
+      let n : b < u = lt (ℕ-discrete b u) in
+      let o = en f b (make-run (λ m q. omega (arith, r .front .starts m q, same-parity m (omega (arith, r .ordered)))) (r .ordered) (λ k p q. omega (arith, r .vacant k p q, same-parity k (omega arith))) (n) (λ q. omega (arith, r .stops (omega arith), same-parity (suc b) q))) in
+      (se f (omega (arith, r .ordered)) ∙ o .0, se b n ∙ o .1)
     where
       lt : Dec (b ≡ u) → b < u
       lt (yes q) = absurd (omega (arith, r .vacant b (r .ordered) (omega arith), par v′ b u q))

@@ -46,53 +46,55 @@ module _ (l r : List ℕ) (hd : Header) (m : Machine) (s : Shows l r hd m) where
 
     pub chosen-version : (i : ℕ) → versionAt (o .links) (o .header .used) i ≡ pick (went chosen n i) (rise (versionAt l (hd .used) i)) (versionAt l (hd .used) i)
     chosen-version i =
-      ap (λ (x : Machine). x .versions i) (shown .same) ∙ left chosen m n .versions i
-      ∙ ap (λ (t : Bool). pick t (rise (m .versions i)) (m .versions i)) (went-is i)
-      ∙ ap (λ (x : Machine). pick (went chosen n i) (rise (x .versions i)) (x .versions i)) (sym (s .same))
+        ap (λ (x : Machine). x .versions i) (shown .same) ∙ left chosen m n .versions i
+        ∙ ap (λ (t : Bool). pick t (rise (m .versions i)) (m .versions i)) (went-is i)
+        ∙ ap (λ (x : Machine). pick (went chosen n i) (rise (x .versions i)) (x .versions i)) (sym (s .same))
 
     pub chosen-row : (i : ℕ) → rowAt (o .rows) (o .header .used) i ≡ pick (went chosen n i) zeroRow (rowAt r (hd .used) i)
     chosen-row i =
-      ap (λ (x : Machine). x .rows i) (shown .same) ∙ left chosen m n .rows i
-      ∙ ap (λ (t : Bool). pick t zeroRow (m .rows i)) (went-is i)
-      ∙ ap (λ (x : Machine). pick (went chosen n i) zeroRow (x .rows i)) (sym (s .same))
+        ap (λ (x : Machine). x .rows i) (shown .same) ∙ left chosen m n .rows i
+        ∙ ap (λ (t : Bool). pick t zeroRow (m .rows i)) (went-is i)
+        ∙ ap (λ (x : Machine). pick (went chosen n i) zeroRow (x .rows i)) (sym (s .same))
 
     pub chosen-count : o .answer .count + o .header .live ≡ hd .live
     chosen-count =
-      omega
-        ( arith
-        , ap (λ (v : Values). v .count) (chosen-does chosen l r hd m s n .answer)
-        , live-is (o .links) (o .rows) (o .header) (strike chosen n m .machine) shown
-        , left chosen m n .count
-        , live-is l r hd m s)
+        omega (
+          arith,
+          ap (λ (v : Values). v .count) (chosen-does chosen l r hd m s n .answer),
+          live-is (o .links) (o .rows) (o .header) (strike chosen n m .machine) shown,
+          left chosen m n .count,
+          live-is l r hd m s,
+        )
 
   -- retain's count is live before less live after
   pub retain-count : (bytes : List ℕ) → length bytes ≡ hd .used → retainRule l r hd bytes .answer .count + retainRule l r hd bytes .header .live ≡ hd .live
   unfolding retainOn sideNumber _▸_
   retain-count bytes e =
-    let d = retain-does l r hd m s bytes in
-    let u : length bytes ≡ m .used = e ∙ ap (λ (x : Machine). x .used) (s .same) in
-    let t : retainOn m bytes ≡ stays (strike (struckBy bytes) (m .used) m .machine) (counted (strike (struckBy bytes) (m .used) m .count)) = simp (eq-eqb _ _ u) in
-    omega
-      ( arith
-      , ap (λ (v : Values). v .count) (d .answer) ∙ ap (λ (x : Step). x .answer .count) t
-      , live-is _ _ _ _ (d .shows) ∙ ap (λ (x : Step). liveOf (x .machine)) t
-      , left (struckBy bytes) m (m .used) .count
-      , live-is l r hd m s)
+      let d = retain-does l r hd m s bytes in
+      let u : length bytes ≡ m .used = e ∙ ap (λ (x : Machine). x .used) (s .same) in
+      let t : retainOn m bytes ≡ stays (strike (struckBy bytes) (m .used) m .machine) (counted (strike (struckBy bytes) (m .used) m .count)) = simp (eq-eqb _ _ u) in
+      omega (
+        arith,
+        ap (λ (v : Values). v .count) (d .answer) ∙ ap (λ (x : Step). x .answer .count) t,
+        live-is _ _ _ _ (d .shows) ∙ ap (λ (x : Step). liveOf (x .machine)) t,
+        left (struckBy bytes) m (m .used) .count,
+        live-is l r hd m s,
+      )
 
   -- clear leaves nothing live
   pub clear-empties : clearRule l r hd .header .live ≡ 0
   unfolding clearOn
   clear-empties =
-    live-is _ _ _ _ (clear-does l r hd m s .shows)
-    ∙ odd-none (strike all (m .used) m .machine .versions) (strike all (m .used) m .machine .used) (λ i h. even i (omega (arith, left all m (m .used) .used)) (ℕ-discrete (m .versions i % 2) 1))
+      live-is _ _ _ _ (clear-does l r hd m s .shows)
+      ∙ odd-none (strike all (m .used) m .machine .versions) (strike all (m .used) m .machine .used) (λ i h. even i (omega (arith, left all m (m .used) .used)) (ℕ-discrete (m .versions i % 2) 1))
     where
       even : (i : ℕ) → i < m .used → Dec (m .versions i % 2 ≡ 1) → strike all (m .used) m .machine .versions i % 2 ≡ 0
       even i h (yes e) =
-        ap (λ (x : ℕ). x % 2) (left all m (m .used) .versions i ∙ simp (lt-ltb i (m .used) h, eq-eqb (m .versions i % 2) 1 e)) ∙ rise-even (m .versions i) e
+          ap (λ (x : ℕ). x % 2) (left all m (m .used) .versions i ∙ simp (lt-ltb i (m .used) h, eq-eqb (m .versions i % 2) 1 e)) ∙ rise-even (m .versions i) e
       even i h (no n) =
-        let kept : strike all (m .used) m .machine .versions i ≡ m .versions i =
+          let kept : strike all (m .used) m .machine .versions i ≡ m .versions i =
           left all m (m .used) .versions i ∙ simp (occupied-no (m .versions) (m .used) i (λ _. omega arith)) (same (ltb i (m .used))) in
-        ap (λ (x : ℕ). x % 2) kept ∙ omega arith
+          ap (λ (x : ℕ). x % 2) kept ∙ omega arith
         where
           same : (t : Bool) → pick (both t false) (rise (m .versions i)) (m .versions i) ≡ m .versions i
           same true = refl

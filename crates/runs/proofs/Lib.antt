@@ -1,8 +1,14 @@
+-- Why the theory of runs holds. Each file stands on those above it.
+--
+-- A table as functions of the slot: one changed slot; the four link words and the rows; how often a slot stands in a list; and a
+-- doubly linked way through slots.
 pub mod Points
 pub mod Words
 pub mod Rows
 pub mod Times
 pub mod Segments
+-- Runs, told by the versions alone: every vacant slot is in one; their fronts as a list; how many slots are occupied; the rules' tests
+-- of slots and of runs; the back found by scanning; the fronts in rising order.
 pub mod Runs
 pub mod Fronts
 pub mod Counts
@@ -10,16 +16,21 @@ pub mod Tests
 pub mod RunTests
 pub mod Backs
 pub mod Rising
+-- One slot changes: it falls vacant, it is filled at a run's back, it comes into use. What becomes of fronts and ends; then, with next,
+-- prev and other_end, that each case of insert and remove keeps a table linked.
 pub mod Freed
 pub mod Filled
 pub mod Grown
 pub mod Linked
+-- Sound, as the rules say it, is a linked table with its count, its chain unique; the check accepts exactly that; relinking makes it.
 pub mod Sound
 pub mod Circles
 pub mod Checked
 pub mod Chained
 pub mod Relinked
 pub mod ClearedRows
+-- Each call of the rules is the machine's step: what all calls share, then insert and remove (the words they write, then the call),
+-- the hop step and walks, the drain step, the removal of the chosen, retain's way to it, the beginnings, the rest.
 pub mod Chains
 pub mod Followed
 pub mod Shown
@@ -33,9 +44,10 @@ pub mod Struck
 pub mod Drains
 pub mod Drained
 pub mod Chosen
+pub mod Leaves
 pub mod Scanned
 pub mod Begun
 pub mod Accessed
-pub mod Full
+-- The theorems in one place: the calls one by one, what is never given, what means nothing; and what full is.
 pub mod Calls
-pub mod Leaves
+pub mod Full

@@ -28,7 +28,7 @@ use Rattle.runs.proofs.Sound.{LinkedTable, linked, sound, sound-chain, 
 pub skipped : (n : ℕ) (t : Bool) (k : ℕ) → t ≡ false → (n ▸ (t, k)) ≡ n
 unfolding _▸_
 skipped n t k e =
-  simp e (by-test (λ (b : Bool). eqb n 0 ≡ b → pick b 0 n ≡ n) (eqb n 0) (λ z q. sym (eqb-true n 0 z)) (λ _ q. refl) refl)
+    simp e (by-test (λ (b : Bool). eqb n 0 ≡ b → pick b 0 n ≡ n) (eqb n 0) (λ z q. sym (eqb-true n 0 z)) (λ _ q. refl) refl)
 
 module _ (l r : List ℕ) (hd : Header) (shape : shapeNumber l r hd ≡ 0) (even : versionAt l (hd .used) 0 % 2 ≡ 0) where
   not-odd : isOdd (versionAt l (hd .used) 0) ≡ false
@@ -41,18 +41,18 @@ module _ (l r : List ℕ) (hd : Header) (shape : shapeNumber l r hd ≡ 0) (even
   pub side-alone : (side asked : ℕ) → sideEntryNumber l r hd side asked ≡ sideNumber passes side asked
   unfolding sideEntryNumber zeroNumber
   side-alone side asked =
-    skipped (sideNumber (shapeNumber l r hd) side asked) (isOdd (versionAt l (hd .used) 0)) damaged not-odd
-    ∙ ap (λ (n : ℕ). sideNumber n side asked) shape
+      skipped (sideNumber (shapeNumber l r hd) side asked) (isOdd (versionAt l (hd .used) 0)) damaged not-odd
+      ∙ ap (λ (n : ℕ). sideNumber n side asked) shape
 
 -- tables that may be lent, under any header that fits them; and tables of the same lengths
 pub fits-shape : (l r : List ℕ) (hd : Header) → lentNumber (length l) (length r) ≡ 0 → 1 ≤ hd .used → hd .used ≤ lentOf l → hd .live < hd .used →
-  shapeNumber l r hd ≡ 0
+    shapeNumber l r hd ≡ 0
 unfolding shapeNumber headerNumber
 fits-shape l r hd e p q s =
-  skipped _ _ _ (le-ltb (hd .used - 1) (hd .live) (omega arith))
-  ∙ skipped _ _ _ (le-ltb (lentOf l) (hd .used) q)
-  ∙ skipped _ _ _ (ne-eqb (hd .used) 0 (λ t. omega arith))
-  ∙ e
+    skipped _ _ _ (le-ltb (hd .used - 1) (hd .live) (omega arith))
+    ∙ skipped _ _ _ (le-ltb (lentOf l) (hd .used) q)
+    ∙ skipped _ _ _ (ne-eqb (hd .used) 0 (λ t. omega arith))
+    ∙ e
 
 pub lent-shape : (l r : List ℕ) (hd : Header) → shapeNumber l r hd ≡ 0 → lentNumber (length l) (length r) ≡ 0
 unfolding shapeNumber headerNumber
@@ -62,14 +62,14 @@ pub same-lent : (l r l′ r′ : List ℕ) → lentNumber (length l) (length r) 
 same-lent l r l′ r′ e a b = ap (λ (n : ℕ). lentNumber n (length r′)) a ∙ ap (lentNumber (length l)) b ∙ e
 
 pub still-shaped : (l r l′ r′ : List ℕ) (hd hd′ : Header) → shapeNumber l r hd ≡ 0 → length l′ ≡ length l → length r′ ≡ length r →
-  1 ≤ hd′ .used → hd′ .used ≤ lentOf l → hd′ .live < hd′ .used → shapeNumber l′ r′ hd′ ≡ 0
+    1 ≤ hd′ .used → hd′ .used ≤ lentOf l → hd′ .live < hd′ .used → shapeNumber l′ r′ hd′ ≡ 0
 still-shaped l r l′ r′ hd hd′ e a b p q s =
-  fits-shape l′ r′ hd′ (same-lent l r l′ r′ (lent-shape l r hd e) a b) p (omega (arith, ap (λ (n : ℕ). n / linkWords) a)) s
+    fits-shape l′ r′ hd′ (same-lent l r l′ r′ (lent-shape l r hd e) a b) p (omega (arith, ap (λ (n : ℕ). n / linkWords) a)) s
 
 -- a table of the right shape with its chain known, and the machine that it is
 module _ (l r : List ℕ) (hd : Header) where
   pub shows : (after : List ℕ) → shapeNumber l r hd ≡ 0 → LinkedTable l (hd .used) after →
-    hd .live ≡ oddCount (versionAt l (hd .used)) (hd .used) → Shows l r hd (machineOf l r hd after)
+      hd .live ≡ oddCount (versionAt l (hd .used)) (hd .used) → Shows l r hd (machineOf l r hd after)
   shows after e L c = record { shaped = e; sound = sound l hd after L c; same = ap (machineOf l r hd) (sound-chain l hd after L c) }
 
   -- one table is one machine
@@ -82,10 +82,10 @@ module _ (l r : List ℕ) (hd : Header) where
 
   -- a call that its number turns down, and one that goes through
   pub unless-does : (m : Machine) → Shows l r hd m → (n n′ : ℕ) → n ≡ n′ → (o : Outcome) (s : Step) → (n′ ≡ 0 → Does o s) →
-    Does (unless l r hd n o) (stepUnless m n′ s)
+      Does (unless l r hd n o) (stepUnless m n′ s)
   unfolding unless
   unless-does m sh n n′ e o s h =
-    subst (λ (k : ℕ). Does (pick (eqb k 0) o (refusal l r hd k)) (stepUnless m n′ s)) (sym e)
+      subst (λ (k : ℕ). Does (pick (eqb k 0) o (refusal l r hd k)) (stepUnless m n′ s)) (sym e)
       (by-test (λ (t : Bool). Does (pick t o (refusal l r hd n′)) (pick t s (stays m (refused n′)))) (eqb n′ 0)
-        (λ z. h (eqb-true n′ 0 z))
-        (λ _. record { answer = refl; row = refl; shows = sh }))
+      (λ z. h (eqb-true n′ 0 z))
+      (λ _. record { answer = refl; row = refl; shows = sh }))

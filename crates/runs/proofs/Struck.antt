@@ -27,13 +27,14 @@ rise-even x h = omega arith
 pub freed-count : (m : Machine) (i : ℕ) → occupiedBy (m .versions) (m .used) i ≡ true → liveOf (freed m i) + 1 ≡ liveOf m
 unfolding freed
 freed-count m i e =
-  let o = occupied-is (m .versions) (m .used) i e in
-  omega
-    ( arith
-    , odd-change (m .versions) (put (m .versions) i (rise (m .versions i))) (m .used) i (o .0) (put-other (m .versions) i (rise (m .versions i)))
-    , ap (λ (x : ℕ). x % 2) (put-same (m .versions) i (rise (m .versions i)) i refl)
-    , rise-even (m .versions i) (o .1)
-    , o .1)
+    let o = occupied-is (m .versions) (m .used) i e in
+    omega (
+      arith,
+      odd-change (m .versions) (put (m .versions) i (rise (m .versions i))) (m .used) i (o .0) (put-other (m .versions) i (rise (m .versions i))),
+      ap (λ (x : ℕ). x % 2) (put-same (m .versions) i (rise (m .versions i)) i refl),
+      rise-even (m .versions i) (o .1),
+      o .1,
+    )
 
 module _ (chosen : ℕ → Bool) (m : Machine) where
   -- slot i is one of those that go
@@ -68,40 +69,43 @@ module _ (chosen : ℕ → Bool) (m : Machine) where
   left-gone : (n : ℕ) (s : Struck) → Left n s → goes n ≡ true → Left (suc n) (record { count = s .count + 1; machine = freed (s .machine) n })
   unfolding freed
   left-gone n s k e =
-    record
-    { versions = λ i. ver i (ℕ-discrete i n)
-    ; rows = λ i. row i (ℕ-discrete i n)
-    ; used = k .used
-    ; lent = k .lent
-    ; count = omega (arith, k .count, freed-count (s .machine) n here)
-    }
+      record {
+        versions = λ i. ver i (ℕ-discrete i n);
+        rows = λ i. row i (ℕ-discrete i n);
+        used = k .used;
+        lent = k .lent;
+        count = omega (arith, k .count, freed-count (s .machine) n here);
+      }
     where
       same-version : s .machine .versions n ≡ m .versions n
       same-version = k .versions n ∙ not-yet n n (rise (m .versions n)) (m .versions n) (omega arith)
+
       here : occupiedBy (s .machine .versions) (s .machine .used) n ≡ true
       here =
-        ap (λ (x : ℕ). both (ltb n (s .machine .used)) (isOdd x)) same-version ∙ ap (λ (x : ℕ). both (ltb n x) (isOdd (m .versions n))) (k .used)
-        ∙ both-true (occupiedBy (m .versions) (m .used) n) (chosen n) e .0
+          ap (λ (x : ℕ). both (ltb n (s .machine .used)) (isOdd x)) same-version ∙ ap (λ (x : ℕ). both (ltb n x) (isOdd (m .versions n))) (k .used)
+          ∙ both-true (occupiedBy (m .versions) (m .used) n) (chosen n) e .0
+
       ver : (i : ℕ) → Dec (i ≡ n) → put (s .machine .versions) n (rise (s .machine .versions n)) i ≡ pick (both (ltb i (suc n)) (goes i)) (rise (m .versions i)) (m .versions i)
       ver i (yes t) =
-        put-same (s .machine .versions) n (rise (s .machine .versions n)) i t ∙ ap rise same-version
-        ∙ sym (looked-at n i (rise (m .versions i)) (m .versions i) t ∙ simp (at-slot i n t ∙ e) (ap (λ (x : ℕ). rise (m .versions x)) t))
+          put-same (s .machine .versions) n (rise (s .machine .versions n)) i t ∙ ap rise same-version
+          ∙ sym (looked-at n i (rise (m .versions i)) (m .versions i) t ∙ simp (at-slot i n t ∙ e) (ap (λ (x : ℕ). rise (m .versions x)) t))
       ver i (no t) =
-        put-other (s .machine .versions) n (rise (s .machine .versions n)) i t ∙ k .versions i ∙ sym (no-other n i (rise (m .versions i)) (m .versions i) t)
+          put-other (s .machine .versions) n (rise (s .machine .versions n)) i t ∙ k .versions i ∙ sym (no-other n i (rise (m .versions i)) (m .versions i) t)
+
       row : (i : ℕ) → Dec (i ≡ n) → put (s .machine .rows) n zeroRow i ≡ pick (both (ltb i (suc n)) (goes i)) zeroRow (m .rows i)
       row i (yes t) =
-        put-same (s .machine .rows) n zeroRow i t ∙ sym (looked-at n i zeroRow (m .rows i) t ∙ simp (at-slot i n t ∙ e))
+          put-same (s .machine .rows) n zeroRow i t ∙ sym (looked-at n i zeroRow (m .rows i) t ∙ simp (at-slot i n t ∙ e))
       row i (no t) = put-other (s .machine .rows) n zeroRow i t ∙ k .rows i ∙ sym (no-other n i zeroRow (m .rows i) t)
 
   left-kept : (n : ℕ) (s : Struck) → Left n s → goes n ≡ false → Left (suc n) s
   left-kept n s k e =
-    record
-    { versions = λ i. k .versions i ∙ same i (rise (m .versions i)) (m .versions i) (ℕ-discrete i n)
-    ; rows = λ i. k .rows i ∙ same i zeroRow (m .rows i) (ℕ-discrete i n)
-    ; used = k .used
-    ; lent = k .lent
-    ; count = k .count
-    }
+      record {
+        versions = λ i. k .versions i ∙ same i (rise (m .versions i)) (m .versions i) (ℕ-discrete i n);
+        rows = λ i. k .rows i ∙ same i zeroRow (m .rows i) (ℕ-discrete i n);
+        used = k .used;
+        lent = k .lent;
+        count = k .count;
+      }
     where
       same : {A : Type 0} (i : ℕ) (a b : A) → Dec (i ≡ n) → pick (both (ltb i n) (goes i)) a b ≡ pick (both (ltb i (suc n)) (goes i)) a b
       same i a b (yes t) = not-yet n i a b (omega arith) ∙ sym (looked-at n i a b t ∙ simp (at-slot i n t ∙ e))
@@ -110,23 +114,23 @@ module _ (chosen : ℕ → Bool) (m : Machine) where
   pub left : (n : ℕ) → Left n (strike chosen n m)
   unfolding strike strikeIf
   left zero =
-    record
-    { versions = λ i. sym (not-yet 0 i (rise (m .versions i)) (m .versions i) (omega arith))
-    ; rows = λ i. sym (not-yet 0 i zeroRow (m .rows i) (omega arith))
-    ; used = refl
-    ; lent = refl
-    ; count = omega arith
-    }
+      record {
+        versions = λ i. sym (not-yet 0 i (rise (m .versions i)) (m .versions i) (omega arith));
+        rows = λ i. sym (not-yet 0 i zeroRow (m .rows i) (omega arith));
+        used = refl;
+        lent = refl;
+        count = omega arith;
+      }
   left (suc n) = go (left n)
     where
       go : Left n (strike chosen n m) → Left (suc n) (strike chosen (suc n) m)
       go k =
-        let s = strike chosen n m in
-        subst (λ (t : Bool). Left (suc n) (pick t (record { count = s .count + 1; machine = freed (s .machine) n }) s)) (sym (test k))
+          let s = strike chosen n m in
+          subst (λ (t : Bool). Left (suc n) (pick t (record { count = s .count + 1; machine = freed (s .machine) n }) s)) (sym (test k))
           (by-test (λ (t : Bool). Left (suc n) (pick t (record { count = s .count + 1; machine = freed (s .machine) n }) s)) (goes n)
-            (left-gone n s k) (left-kept n s k))
+          (left-gone n s k) (left-kept n s k))
         where
           test : Left n (strike chosen n m) → both (occupiedBy (strike chosen n m .machine .versions) (strike chosen n m .machine .used) n) (chosen n) ≡ goes n
           test k =
-            ap (λ (x : ℕ). both (both (ltb n (strike chosen n m .machine .used)) (isOdd x)) (chosen n)) (k .versions n ∙ not-yet n n (rise (m .versions n)) (m .versions n) (omega arith))
-            ∙ ap (λ (x : ℕ). both (both (ltb n x) (isOdd (m .versions n))) (chosen n)) (k .used)
+              ap (λ (x : ℕ). both (both (ltb n (strike chosen n m .machine .used)) (isOdd x)) (chosen n)) (k .versions n ∙ not-yet n n (rise (m .versions n)) (m .versions n) (omega arith))
+              ∙ ap (λ (x : ℕ). both (both (ltb n x) (isOdd (m .versions n))) (chosen n)) (k .used)

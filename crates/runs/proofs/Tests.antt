@@ -25,7 +25,7 @@ module _ (v : ℕ → ℕ) (u i : ℕ) where
 
   pub vacant-not : vacantBy v u i ≡ false → i < u → v i % 2 ≡ 1
   vacant-not e h =
-    let n : v i % 2 ≡ 0 → ⊥ = eqb-false (v i % 2) 0 (both-false (ltb i u) (eqb (v i % 2) 0) e (lt-ltb i u h)) in omega (arith, n)
+      let n : v i % 2 ≡ 0 → ⊥ = eqb-false (v i % 2) 0 (both-false (ltb i u) (eqb (v i % 2) 0) e (lt-ltb i u h)) in omega (arith, n)
 
   pub occupied-yes : i < u → v i % 2 ≡ 1 → occupiedBy v u i ≡ true
   occupied-yes h e = simp (lt-ltb i u h, eq-eqb (v i % 2) 1 e)
@@ -38,4 +38,4 @@ module _ (v : ℕ → ℕ) (u i : ℕ) where
 
   pub occupied-not : occupiedBy v u i ≡ false → i < u → v i % 2 ≡ 0
   occupied-not e h =
-    let n : v i % 2 ≡ 1 → ⊥ = eqb-false (v i % 2) 1 (both-false (ltb i u) (eqb (v i % 2) 1) e (lt-ltb i u h)) in omega (arith, n)
+      let n : v i % 2 ≡ 1 → ⊥ = eqb-false (v i % 2) 1 (both-false (ltb i u) (eqb (v i % 2) 1) e (lt-ltb i u h)) in omega (arith, n)

@@ -25,10 +25,11 @@ times-split x (y ∷ ys) h = go (ℕ-discrete x y) (times-split x ys)
 pub times-less : (x : ℕ) (l : List ℕ) → 1 ≤ times x l
     → (m : List ℕ) × ((k : ℕ) → times k l ≡ alike k x + times k m) × (length l ≡ suc (length m))
 times-less x l h =
-  let c = times-split x l h in
-  ( c .0 ++ c .1
-  , (λ k. omega (arith, ap (times k) (c .2), times-append k (c .0) (x ∷ c .1), times-append k (c .0) (c .1)))
-  , omega (arith, ap length (c .2), length-append (c .0) (x ∷ c .1), length-append (c .0) (c .1)))
+    let c = times-split x l h in (
+      c .0 ++ c .1,
+      (λ k. omega (arith, ap (times k) (c .2), times-append k (c .0) (x ∷ c .1), times-append k (c .0) (c .1))),
+      omega (arith, ap length (c .2), length-append (c .0) (x ∷ c .1), length-append (c .0) (c .1)),
+    )
 
 -- one more in front: still none twice where it is new, and what holds of it and of the rest holds of each
 pub times-once : (x : ℕ) (l : List ℕ) → times x l ≡ 0 → ((k : ℕ) → times k l ≤ 1) → (k : ℕ) → times k (x ∷ l) ≤ 1

@@ -42,13 +42,13 @@ grownBy m side =
       answer = keyed (record { index = m .used; version = 1 });
       row = zeroRow;
       machine =
-        record {
-          versions = put (m .versions) (m .used) 1;
-          rows = put (m .rows) (m .used) side;
-          used = m .used + 1;
-          fronts = m .fronts;
-          lent = m .lent;
-        };
+          record {
+            versions = put (m .versions) (m .used) 1;
+            rows = put (m .rows) (m .used) side;
+            used = m .used + 1;
+            fronts = m .fronts;
+            lent = m .lent;
+          };
     }
 
 unfoldable pub filledBy : Machine → List ℕ → ℕ → Step
@@ -57,13 +57,13 @@ filledBy m side b =
       answer = keyed (record { index = b; version = withBit (m .versions b) });
       row = zeroRow;
       machine =
-        record {
-          versions = put (m .versions) b (withBit (m .versions b));
-          rows = put (m .rows) b side;
-          used = m .used;
-          fronts = pick (eqb (first (m .fronts)) b) (later (m .fronts)) (m .fronts);
-          lent = m .lent;
-        };
+          record {
+            versions = put (m .versions) b (withBit (m .versions b));
+            rows = put (m .rows) b side;
+            used = m .used;
+            fronts = pick (eqb (first (m .fronts)) b) (later (m .fronts)) (m .fronts);
+            lent = m .lent;
+          };
     }
 
 unfoldable pub insertOn : Machine → List ℕ → Step
