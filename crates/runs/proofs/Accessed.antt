@@ -1,25 +1,25 @@
 -- Looks, replace and room on a sound table are the machine's. Assumes nothing.
-use mathlib.Core.Path.{_≡_, refl, sym, ap, _∙_, subst}
-use mathlib.Core.List.{List, [], _∷_, _++_}
-use Prim.Native.Nat.{ℕ, zero, suc, _+_, _-_, _*_, _≤_, _<_, _%_}
+use mathlib.Core.Path.{_≡_, refl, ap, _∙_}
+use mathlib.Core.List.{List, []}
+use Prim.Native.Nat.{ℕ, _-_, _<_}
 use native.Mathlib.Omega.{arith}
 use lib.ListN.{length}
 use lib.Dec.{ltb, eqb}
 use borrow.Author.Tests.{eq-eqb, eqb-true, ltb-true, not-false}
-use Rattle.rules.specs.Choice.{pick, both}
+use Rattle.rules.specs.Choice.{pick}
 use Rattle.rules.specs.Words.{rowWords, lentOf, versionAt, rowAt, setRow}
-use Rattle.rules.specs.Values.{plain, done, counted, unless}
-use Rattle.rules.specs.Refusals.{passes, sideNumber, sideEntryNumber, entryNumber, liveBy, liveKey, liveNumber}
-use Rattle.rules.specs.Access.{keyNumber, lookRule, replaceNumber, replaceRule}
+use Rattle.rules.specs.Values.{counted}
+use Rattle.rules.specs.Refusals.{passes, sideNumber, liveKey, liveNumber}
+use Rattle.rules.specs.Access.{lookRule, replaceNumber, replaceRule}
 use Rattle.rules.specs.Start.{roomRule}
 use Rattle.rules.specs.declared.Header.{Header}
 use Rattle.rules.specs.declared.Key.{Key}
 use Rattle.rules.proofs.Choice.{both-true}
 use Rattle.rules.proofs.Refusals.{passed}
 use Rattle.rules.proofs.Shape.{shaped}
-use Rattle.runs.specs.Points.{put}
-use Rattle.runs.specs.Machine.{Machine, liveOf, machineOf}
-use Rattle.runs.specs.Steps.{stays, keyNumberOn, lookOn, written, replaceOn, roomOn}
+use Rattle.runs.specs.Machine.{Machine}
+use Rattle.runs.specs.Steps.{keyNumberOn, lookOn, written, replaceOn}
+use Rattle.runs.specs.WholeTable.{roomOn}
 use Rattle.runs.specs.Tables.{Shows, Does}
 use Rattle.runs.proofs.Rows.{row-below, row-put, length-row}
 use Rattle.runs.proofs.Shown.{entry-passes, side-alone, still-shaped, unless-does}

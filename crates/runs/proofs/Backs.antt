@@ -1,12 +1,9 @@
 -- Scanning finds a run's back. Assumes nothing.
-use mathlib.Core.Path.{_≡_, ap, _∙_, sym, subst}
-use mathlib.Core.Bool.{Bool}
+use mathlib.Core.Path.{_≡_, _∙_, sym, subst}
 use Prim.Native.Nat.{ℕ, zero, suc, _+_, _-_, _≤_, _<_, _%_}
 use native.Mathlib.Decide.{ℕ-discrete, decLt}
 use native.Mathlib.Omega.{arith}
-use Rattle.rules.specs.Choice.{pick}
 use Rattle.rules.specs.Runs.{Front, Run}
-use Rattle.rules.specs.Words.{vacantBy}
 use Rattle.runs.specs.Machine.{scan, backOf}
 use Rattle.runs.proofs.Runs.{par, front-run}
 use Rattle.runs.proofs.Tests.{vacant-yes, vacant-no}

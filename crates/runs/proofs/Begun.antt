@@ -1,28 +1,27 @@
 -- Start, and a rebuild that is not refused, leave a sound table of the right shape, from any words. Assumes nothing.
 use mathlib.Core.Path.{_≡_, refl, sym, ap, _∙_, subst, fun-ext}
-use mathlib.Core.List.{List, [], _∷_, _++_}
-use mathlib.Core.Bool.{Bool, true, false}
-use Prim.Native.Nat.{ℕ, zero, suc, _+_, _-_, _*_, _≤_, _<_, _%_}
+use mathlib.Core.List.{List, [], _∷_}
+use mathlib.Core.Bool.{true}
+use Prim.Native.Nat.{ℕ, _-_, _*_, _≤_, _<_, _%_}
 use native.Mathlib.Decide.{ℕ-discrete}
 use native.Mathlib.Omega.{arith}
 use lib.ListN.{length}
-use lib.Dec.{ltb, eqb}
-use borrow.Author.Tests.{eq-eqb, ne-eqb, le-ltb, eqb-false, ltb-false}
-use Rattle.rules.specs.Choice.{pick, both, alike, times}
-use Rattle.rules.specs.Words.{linkWords, rowWords, lentOf, linkAt, versionAt, nextAt, prevAt, otherEndAt, newSlot, zeroRow, rowAt, setRow, vacantBy, vacantAt}
+use borrow.Author.Tests.{eq-eqb, le-ltb, eqb-false, ltb-false}
+use Rattle.rules.specs.Choice.{times}
+use Rattle.rules.specs.Words.{linkWords, rowWords, lentOf, linkAt, versionAt, nextAt, prevAt, otherEndAt, newSlot, zeroRow, rowAt, setRow, vacantAt}
 use Rattle.rules.specs.Headers.{fresh, rebuilt}
-use Rattle.rules.specs.Values.{plain, done, unless}
+use Rattle.rules.specs.Values.{done, unless}
 use Rattle.rules.specs.Refusals.{lentNumber}
 use Rattle.rules.specs.Start.{startRule}
-use Rattle.rules.specs.Rebuild.{rebuildNumber, relinked, clearedRows, rebuildStep, rebuildRule}
-use Rattle.rules.specs.Runs.{Front, Run, oddCount}
+use Rattle.rules.specs.Rebuild.{rebuildNumber, relinked, clearedRows, rebuildRule}
+use Rattle.rules.specs.Runs.{Front, oddCount}
 use Rattle.rules.specs.declared.Header.{Header}
 use Rattle.rules.proofs.Refusals.{passed}
 use Rattle.rules.proofs.Shape.{Lent, lent}
 use Rattle.runs.specs.Points.{put}
-use Rattle.runs.specs.Machine.{Machine, machineOf}
 use Rattle.runs.specs.Rising.{rising}
-use Rattle.runs.specs.Steps.{stays, startOn, rebuildOn}
+use Rattle.runs.specs.Steps.{stays}
+use Rattle.runs.specs.WholeTable.{startOn, rebuildOn}
 use Rattle.runs.specs.Tables.{Shows, Does}
 use Rattle.runs.proofs.Points.{alike-same, alike-other, put-same, put-other}
 use Rattle.runs.proofs.Words.{holds, holds-below, new-version, new-next, new-prev, new-other-end, length-slot}

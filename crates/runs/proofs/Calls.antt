@@ -1,15 +1,14 @@
 -- The theorems, call by call: on a sound table each rule is the machine's step and leaves a sound table; none gives 2; and two
 -- tables that are one machine answer alike and stay one machine, whatever stands inside their runs and in the links of occupied
 -- slots. Assumes nothing.
-use mathlib.Core.Path.{_≡_, refl, sym, ap, _∙_, subst, fun-ext}
+use mathlib.Core.Path.{_≡_, sym, ap, _∙_, fun-ext}
 use mathlib.Core.Logic.{_≢_}
-use mathlib.Core.List.{List, [], _∷_}
+use mathlib.Core.List.{List}
 use mathlib.Core.Bool.{Bool}
-use Prim.Native.Nat.{ℕ, _+_, _≤_}
+use Prim.Native.Nat.{ℕ, _+_}
 use native.Mathlib.Omega.{arith}
 use lib.ListN.{length}
 use lib.Dec.{leb, eqb}
-use Rattle.rules.specs.Choice.{pick, alike, times}
 use Rattle.rules.specs.Words.{rowWords, versionAt, nextAt, prevAt, occupiedBy}
 use Rattle.rules.specs.Values.{Values, Outcome, refused}
 use Rattle.rules.specs.Refusals.{_▸_, passes, shape, damaged, evenVersion, notLive, full, shapeNumber, sideNumber}
@@ -28,10 +27,10 @@ use Rattle.rules.specs.declared.Header.{Header}
 use Rattle.rules.specs.declared.Key.{Key}
 use Rattle.rules.proofs.Choice.{by-pick}
 use Rattle.runs.specs.Machine.{Machine, liveOf, backOf, machineOf}
-use Rattle.runs.specs.Steps.{Step, stays, stepUnless, keyNumberOn, place, insertNumberOn, grownBy, filledBy, insertOn, removeOn, replaceOn, hopOn, drainOn, clearOn, retainOn, soundOn, roomOn}
-use Rattle.runs.specs.Tables.{Shows, Does, Simulates, NeverGives, Alike}
+use Rattle.runs.specs.Steps.{Step, stays, stepUnless, keyNumberOn, place, insertNumberOn, grownBy, filledBy, insertOn, removeOn, replaceOn, hopOn, drainOn}
+use Rattle.runs.specs.WholeTable.{clearOn, retainOn, soundOn, roomOn}
+use Rattle.runs.specs.Tables.{Shows, Simulates, NeverGives, Alike}
 use Rattle.runs.proofs.Segments.{seg-agree}
-use Rattle.runs.proofs.Linked.{Linked}
 use Rattle.runs.proofs.Sound.{linked, off-zero}
 use Rattle.runs.proofs.Shown.{header-is}
 use Rattle.runs.proofs.Inserted.{insert-does}

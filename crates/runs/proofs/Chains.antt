@@ -1,15 +1,14 @@
 -- The chain with a front renamed or left out. Assumes nothing.
-use mathlib.Core.Path.{_≡_, refl, sym, ap, _∙_}
-use mathlib.Core.Logic.{_≢_}
+use mathlib.Core.Path.{_≡_, refl, sym}
 use mathlib.Core.List.{List, [], _∷_, _++_}
 use mathlib.Core.Bool.{false}
-use Prim.Native.Nat.{ℕ, zero, suc, _+_, _≤_, _<_}
+use Prim.Native.Nat.{ℕ, _+_, _≤_}
 use native.Mathlib.Omega.{arith}
 use borrow.Author.Tests.{eq-eqb, ne-eqb}
 use lib.Dec.{eqb}
-use Rattle.rules.specs.Choice.{pick, alike, times}
+use Rattle.rules.specs.Choice.{times}
 use Rattle.runs.specs.Machine.{renamed, without}
-use Rattle.runs.proofs.Points.{alike-same, alike-other}
+use Rattle.runs.proofs.Points.{alike-same}
 use Rattle.runs.proofs.Times.{times-append}
 
 module _ (r : ℕ) where

@@ -1,16 +1,16 @@
 -- The chosen removed in rising order, for any choice, on a sound table: never refused, the machine's step, and what is left.
 -- Clear and retain are instances. Assumes nothing.
 use mathlib.Core.Path.{_≡_, refl, sym, ap, _∙_, subst}
-use mathlib.Core.List.{List, [], _∷_, _++_}
-use mathlib.Core.Bool.{Bool, true, false}
-use Prim.Native.Nat.{ℕ, zero, suc, _+_, _-_, _≤_, _<_, _%_}
+use mathlib.Core.List.{List}
+use mathlib.Core.Bool.{Bool}
+use Prim.Native.Nat.{ℕ, zero, suc, _+_, _-_}
 use native.Mathlib.Omega.{arith}
 use lib.ListN.{length}
 use lib.Dec.{eqb}
 use Rattle.rules.specs.Choice.{pick, both}
 use Rattle.rules.specs.Words.{zeroRow, versionAt, occupiedAt, occupiedBy, keyAt}
-use Rattle.rules.specs.Values.{Values, Outcome, plain, counted, done, refused, unless}
-use Rattle.rules.specs.Refusals.{passes, shapeNumber, sideNumber, zeroNumber, entryNumber, sideEntryNumber}
+use Rattle.rules.specs.Values.{Values, Outcome, plain, counted, done, refused}
+use Rattle.rules.specs.Refusals.{passes, shapeNumber, sideNumber, zeroNumber, entryNumber}
 use Rattle.rules.specs.Remove.{removeSlot}
 use Rattle.rules.specs.Check.{soundNumber, checkRule}
 use Rattle.rules.specs.Clear.{drainTimes, clearRule}
@@ -20,7 +20,8 @@ use Rattle.rules.specs.declared.Header.{Header}
 use Rattle.rules.proofs.Choice.{by-test, both-true}
 use Rattle.rules.proofs.Refusals.{passed}
 use Rattle.runs.specs.Machine.{Machine, liveOf, machineOf}
-use Rattle.runs.specs.Steps.{Step, stays, freed, Struck, strikeIf, strike, all, drainsOn, clearOn, retainOn, soundOn}
+use Rattle.runs.specs.Steps.{stays, freed}
+use Rattle.runs.specs.WholeTable.{Struck, strikeIf, strike, drainsOn, clearOn, retainOn, soundOn}
 use Rattle.runs.specs.Tables.{Shows, Does}
 use Rattle.runs.proofs.Shown.{entry-passes, side-alone, unless-does}
 use Rattle.runs.proofs.Checked.{sound-passed, sound-passes}

@@ -1,27 +1,26 @@
 -- The drain step on a sound table is the machine's: it takes the lowest live slot. Assumes nothing.
 use mathlib.Core.Path.{_≡_, refl, sym, ap, _∙_, subst}
 use mathlib.Core.Logic.{_≢_}
-use mathlib.Core.List.{List, [], _∷_, _++_}
-use mathlib.Core.Bool.{Bool, true, false}
+use mathlib.Core.List.{List}
+use mathlib.Core.Bool.{Bool}
 use Prim.Native.Nat.{ℕ, zero, suc, _+_, _-_, _≤_, _<_, _%_}
 use native.Mathlib.Omega.{arith}
 use lib.Dec.{eqb}
 use borrow.Author.Tests.{eq-eqb, ne-eqb, eqb-false}
 use Rattle.rules.specs.Choice.{pick}
 use Rattle.rules.specs.Words.{versionAt, otherEndAt}
-use Rattle.rules.specs.Values.{Outcome, plain, done, unless}
-use Rattle.rules.specs.Refusals.{shapeNumber, entryNumber}
+use Rattle.rules.specs.Values.{Outcome, plain, done}
+use Rattle.rules.specs.Refusals.{entryNumber}
 use Rattle.rules.specs.Remove.{removeAt}
 use Rattle.rules.specs.Drain.{drainRule}
 use Rattle.rules.specs.Clear.{drainTimes}
-use Rattle.rules.specs.Runs.{Run, oddCount}
 use Rattle.rules.specs.declared.Header.{Header}
 use Rattle.rules.proofs.Choice.{by-test}
 use Rattle.runs.specs.Machine.{Machine, liveOf, keyOf, backOf, machineOf}
-use Rattle.runs.specs.Steps.{Step, stays, takenOut, lowest, drainOn, drainsOn}
+use Rattle.runs.specs.Steps.{Step, stays, takenOut, lowest, drainOn}
+use Rattle.runs.specs.WholeTable.{drainsOn}
 use Rattle.runs.specs.Tables.{Shows, Does}
 use Rattle.runs.proofs.Tests.{occupied-yes}
-use Rattle.runs.proofs.Linked.{Linked}
 use Rattle.runs.proofs.Sound.{linked}
 use Rattle.runs.proofs.Shown.{entry-passes, unless-does}
 use Rattle.runs.proofs.Struck.{freed-count}

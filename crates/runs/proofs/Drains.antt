@@ -1,23 +1,22 @@
 -- The lowest live slot, and that draining to the end removes every live slot in rising order. Assumes nothing.
 use mathlib.Core.Path.{_≡_, refl, sym, ap, _∙_, subst}
 use mathlib.Core.Logic.{_≢_}
-use mathlib.Core.List.{List}
-use mathlib.Core.Bool.{Bool, true, false}
+use mathlib.Core.Bool.{Bool}
 use Prim.Native.Nat.{ℕ, zero, suc, _+_, _-_, _≤_, _<_, _%_}
-use native.Mathlib.Decide.{ℕ-discrete, decLe, decLt}
+use native.Mathlib.Decide.{ℕ-discrete, decLt}
 use native.Mathlib.Omega.{arith}
-use lib.Dec.{eqb}
-use borrow.Author.Tests.{eq-eqb, ne-eqb, lt-ltb, le-ltb}
+use borrow.Author.Tests.{ne-eqb}
 use Rattle.rules.specs.Choice.{pick, both}
 use Rattle.rules.specs.Words.{rise, occupiedBy}
-use Rattle.rules.specs.Runs.{Front, Run, oddCount}
+use Rattle.rules.specs.Runs.{Run}
 use Rattle.rules.proofs.Choice.{by-test}
 use Rattle.runs.specs.Points.{put}
 use Rattle.runs.specs.Machine.{Machine, liveOf, backOf}
-use Rattle.runs.specs.Steps.{freed, Struck, strikeIf, strike, all, lowest, drainOn, drainsOn}
+use Rattle.runs.specs.Steps.{freed, lowest, drainOn}
+use Rattle.runs.specs.WholeTable.{strikeIf, strike, all, drainsOn}
 use Rattle.runs.proofs.Points.{put-same, put-other}
 use Rattle.runs.proofs.Counts.{odd-some, odd-none}
-use Rattle.runs.proofs.Runs.{par, after-run}
+use Rattle.runs.proofs.Runs.{after-run}
 use Rattle.runs.proofs.Tests.{occupied-yes, occupied-no}
 use Rattle.runs.proofs.Backs.{run-from}
 use Rattle.runs.proofs.Struck.{rise-even, freed-count}

@@ -1,15 +1,15 @@
 -- A run's back becomes occupied: what becomes of fronts and ends. Assumes nothing.
-use mathlib.Core.Path.{_≡_, refl, sym, ap, _∙_, subst}
+use mathlib.Core.Path.{_≡_, sym, ap, _∙_}
 use mathlib.Core.Logic.{_≢_}
-use mathlib.Core.List.{List, [], _∷_, _++_}
-use Prim.Native.Nat.{ℕ, zero, suc, _+_, _-_, _≤_, _<_, _%_}
-use native.Mathlib.Decide.{ℕ-discrete, decLe, decLt}
+use mathlib.Core.List.{List, _∷_}
+use Prim.Native.Nat.{ℕ, suc, _-_, _≤_, _<_, _%_}
+use native.Mathlib.Decide.{ℕ-discrete, decLt}
 use native.Mathlib.Omega.{arith}
-use Rattle.rules.specs.Choice.{alike, times}
+use Rattle.rules.specs.Choice.{times}
 use Rattle.rules.specs.Runs.{Front, Run}
-use Rattle.runs.proofs.Points.{alike-same, alike-other}
+use Rattle.runs.proofs.Points.{alike-other}
 use Rattle.runs.proofs.Runs.{par, make-run, run-same}
-use Rattle.runs.proofs.Fronts.{Fronts, Ended, fronts-once, same-times}
+use Rattle.runs.proofs.Fronts.{Fronts, Ended, same-times}
 
 -- Slot b, the back of the run from h, becomes occupied
 module _ (v v′ : ℕ → ℕ) (u h b : ℕ) (run : Run v u h b) (odd′ : v′ b % 2 ≡ 1) (same : (k : ℕ) → k ≢ b → v′ k ≡ v k) where

@@ -2,16 +2,15 @@
 -- Assumes nothing.
 use mathlib.Core.Path.{_≡_, refl, sym, ap, _∙_, subst}
 use mathlib.Core.Logic.{_≢_}
-use mathlib.Core.List.{List, [], _∷_, _++_}
-use mathlib.Core.Bool.{Bool, true, false}
-use Prim.Native.Nat.{ℕ, zero, suc, _+_, _-_, _*_, _≤_, _<_, _%_}
+use mathlib.Core.List.{List, [], _∷_}
+use mathlib.Core.Bool.{Bool, true}
+use Prim.Native.Nat.{ℕ, suc, _+_, _-_, _*_, _≤_, _<_, _%_}
 use native.Mathlib.Omega.{arith}
 use lib.ListN.{length}
 use lib.Dec.{eqb}
-use borrow.Author.Tests.{eq-eqb, ne-eqb, eqb-true, eqb-false}
+use borrow.Author.Tests.{eqb-true, eqb-false}
 use Rattle.rules.specs.Choice.{pick}
 use Rattle.rules.specs.Words.{linkWords, versionAt, nextAt, prevAt, otherEndAt, setVersion, newSlot}
-use Rattle.rules.specs.Runs.{Front, Run}
 use Rattle.rules.specs.Insert.{insertLinks, takeLast, takeBack, shortened}
 use Rattle.rules.specs.declared.steps.InsertLinks.{InsertLinks}
 use Rattle.rules.proofs.Choice.{by-test, by-pick}
@@ -20,7 +19,8 @@ use Rattle.runs.specs.Machine.{first, later, backOf}
 use Rattle.runs.proofs.Words.{holds, holds-below, words, new-words}
 use Rattle.runs.proofs.Segments.{Seg}
 use Rattle.runs.proofs.Backs.{back-of}
-use Rattle.runs.proofs.Linked.{Linked, first-run, new-slot, take-last, take-back}
+use Rattle.runs.proofs.Linked.{Linked, first-run}
+use Rattle.runs.proofs.Taken.{new-slot, take-last, take-back}
 use Rattle.runs.proofs.Followed.{insert-h, insert-b, insert-n}
 use Rattle.runs.proofs.Sound.{LinkedTable}
 

@@ -1,17 +1,17 @@
 -- In a linked table every link that a call follows leads where it should. Assumes nothing.
 use mathlib.Core.Path.{_≡_, refl, sym, ap, _∙_, subst}
 use mathlib.Core.Logic.{_≢_}
-use mathlib.Core.List.{List, [], _∷_, _++_}
-use Prim.Native.Nat.{ℕ, zero, suc, _+_, _-_, _≤_, _<_, _%_}
+use mathlib.Core.List.{List, [], _∷_}
+use Prim.Native.Nat.{ℕ, suc, _-_, _≤_, _<_, _%_}
 use native.Mathlib.Decide.{ℕ-discrete}
 use native.Mathlib.Omega.{arith}
-use Rattle.rules.specs.Choice.{alike, times}
-use Rattle.rules.specs.Runs.{Front, Run, oddCount}
+use Rattle.rules.specs.Choice.{times}
+use Rattle.rules.specs.Runs.{Front, oddCount}
 use Rattle.runs.proofs.Points.{alike-same, alike-other}
 use Rattle.runs.proofs.Times.{times-append, times-split}
 use Rattle.runs.proofs.Segments.{Seg, seg-split, seg-last, seg-first}
 use Rattle.runs.proofs.Runs.{par, front-run, back-run}
-use Rattle.runs.proofs.Fronts.{Fronts, fronts-once}
+use Rattle.runs.proofs.Fronts.{fronts-once}
 use Rattle.runs.proofs.Counts.{odd-but-two}
 use Rattle.runs.proofs.Linked.{Linked, first-run}
 

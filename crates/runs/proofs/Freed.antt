@@ -1,15 +1,15 @@
 -- An occupied slot becomes vacant: what becomes of fronts and ends. Assumes nothing.
 use mathlib.Core.Path.{_≡_, refl, sym, ap, _∙_, subst}
 use mathlib.Core.Logic.{_≢_}
-use mathlib.Core.List.{List, [], _∷_, _++_}
-use Prim.Native.Nat.{ℕ, zero, suc, _+_, _-_, _≤_, _<_, _%_}
-use native.Mathlib.Decide.{ℕ-discrete, decLe, decLt}
+use mathlib.Core.List.{List, _∷_}
+use Prim.Native.Nat.{ℕ, suc, _-_, _≤_, _<_, _%_}
+use native.Mathlib.Decide.{ℕ-discrete, decLt}
 use native.Mathlib.Omega.{arith}
-use Rattle.rules.specs.Choice.{alike, times}
+use Rattle.rules.specs.Choice.{times}
 use Rattle.rules.specs.Runs.{Front, Run}
-use Rattle.runs.proofs.Points.{alike-same, alike-other}
+use Rattle.runs.proofs.Points.{alike-other}
 use Rattle.runs.proofs.Runs.{par, make-run, run-same}
-use Rattle.runs.proofs.Fronts.{Fronts, Ended, fronts-once, same-times}
+use Rattle.runs.proofs.Fronts.{Fronts, Ended, same-times}
 
 -- Slot suc j, occupied, becomes vacant
 module _ (v v′ : ℕ → ℕ) (u j : ℕ) (low : suc j < u) (odd : v (suc j) % 2 ≡ 1) (even′ : v′ (suc j) % 2 ≡ 0)

@@ -1,27 +1,25 @@
 -- The link words that a removal writes, case by case, keep a table linked and take the chain where the machine does.
 -- Assumes nothing.
-use mathlib.Core.Path.{_≡_, refl, sym, ap, _∙_, subst}
+use mathlib.Core.Path.{_≡_, ap, _∙_}
 use mathlib.Core.List.{List, [], _∷_, _++_}
 use mathlib.Core.Bool.{Bool, true, false}
-use Prim.Native.Nat.{ℕ, zero, suc, _+_, _-_, _*_, _≤_, _<_, _%_}
+use Prim.Native.Nat.{ℕ, suc, _+_, _-_, _*_, _≤_, _<_, _%_}
 use native.Mathlib.Omega.{arith}
 use lib.ListN.{length}
-use Rattle.rules.specs.Choice.{pick, alike, times}
+use Rattle.rules.specs.Choice.{pick, times}
 use Rattle.rules.specs.Words.{linkWords, versionAt, nextAt, prevAt, otherEndAt, setVersion, vacantBy, vacantAt}
-use Rattle.rules.specs.Runs.{Front, Run}
 use Rattle.rules.specs.Remove.{beside, setApart, joinRight, joinLeft, joinBoth, freed}
 use Rattle.rules.specs.declared.steps.Beside.{Beside}
 use Rattle.rules.proofs.Choice.{by-test, by-pick}
-use Rattle.runs.specs.Points.{put}
 use Rattle.runs.specs.Machine.{renamed, without, frontsAfter}
-use Rattle.runs.proofs.Points.{alike-same, alike-other}
+use Rattle.runs.proofs.Points.{alike-other}
 use Rattle.runs.proofs.Times.{times-split}
 use Rattle.runs.proofs.Words.{holds, holds-below, words}
 use Rattle.runs.proofs.Runs.{par}
 use Rattle.runs.proofs.Fronts.{fronts-once}
 use Rattle.runs.proofs.Tests.{vacant-is, vacant-not}
 use Rattle.runs.proofs.Chains.{renamed-at, without-at}
-use Rattle.runs.proofs.Linked.{Linked, apart, join-right, join-left, join-both}
+use Rattle.runs.proofs.Joined.{apart, join-right, join-left, join-both}
 use Rattle.runs.proofs.Followed.{remove-t, remove-right-links, remove-left-link}
 use Rattle.runs.proofs.Sound.{LinkedTable}
 

@@ -1,11 +1,10 @@
 -- The fronts of runs as a list, and the words at both ends of a run. Assumes nothing.
-use mathlib.Core.Path.{_≡_, refl, sym, ap, _∙_, subst}
-use mathlib.Core.Logic.{_≢_}
-use mathlib.Core.List.{List, [], _∷_, _++_}
-use Prim.Native.Nat.{ℕ, zero, suc, _+_, _-_, _≤_, _<_, _%_}
-use native.Mathlib.Decide.{ℕ-discrete, decLe, decLt}
+use mathlib.Core.Path.{_≡_, ap}
+use mathlib.Core.List.{List, _∷_}
+use Prim.Native.Nat.{ℕ, _-_, _≤_, _<_, _%_}
+use native.Mathlib.Decide.{decLe}
 use native.Mathlib.Omega.{arith}
-use Rattle.rules.specs.Choice.{alike, times}
+use Rattle.rules.specs.Choice.{times}
 use Rattle.rules.specs.Runs.{Front, Run}
 
 -- the list, with 0 ahead of it, has each run's front once and nothing else

@@ -1,30 +1,26 @@
 -- Full is exactly: used = lent, and nothing but slot 0 vacant. Assumes nothing.
 use mathlib.Core.Path.{_≡_, refl, sym, ap, _∙_, subst}
-use mathlib.Core.Logic.{_≢_}
-use mathlib.Core.List.{List, [], _∷_, _++_}
-use mathlib.Core.Bool.{Bool, true, false}
-use Prim.Native.Nat.{ℕ, zero, suc, _+_, _-_, _≤_, _<_, _%_}
+use mathlib.Core.List.{List, [], _∷_}
+use Prim.Native.Nat.{ℕ, _-_, _≤_, _<_, _%_}
 use native.Mathlib.Decide.{ℕ-discrete}
 use native.Mathlib.Omega.{arith}
 use lib.ListN.{length}
-use lib.Dec.{eqb}
-use borrow.Author.Tests.{eq-eqb, eqb-true}
-use Rattle.rules.specs.Choice.{pick, both, alike, times}
+use borrow.Author.Tests.{eq-eqb}
+use Rattle.rules.specs.Choice.{times}
 use Rattle.rules.specs.Words.{rowWords, lentOf, versionAt}
-use Rattle.rules.specs.Values.{Values, refused}
-use Rattle.rules.specs.Refusals.{_▸_, passes, full, sideNumber}
+use Rattle.rules.specs.Values.{refused}
+use Rattle.rules.specs.Refusals.{_▸_, full, sideNumber}
 use Rattle.rules.specs.Runs.{Front, Run}
 use Rattle.rules.specs.Insert.{insertRule}
 use Rattle.rules.specs.declared.Header.{Header}
 use Rattle.rules.proofs.Full.{full-only}
 use Rattle.runs.specs.Machine.{Machine, first, backOf}
 use Rattle.runs.specs.Steps.{place, insertNumberOn, insertOn}
-use Rattle.runs.specs.Tables.{Shows, Does}
+use Rattle.runs.specs.Tables.{Shows}
 use Rattle.runs.proofs.Points.{alike-same, alike-other}
 use Rattle.runs.proofs.Runs.{down}
 use Rattle.runs.proofs.Fronts.{Fronts, fronts-once}
 use Rattle.runs.proofs.Backs.{run-from}
-use Rattle.runs.proofs.Linked.{Linked}
 use Rattle.runs.proofs.Sound.{linked}
 use Rattle.runs.proofs.Filling.{place-is}
 use Rattle.runs.proofs.Inserted.{insert-does}

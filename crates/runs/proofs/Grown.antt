@@ -1,15 +1,12 @@
 -- An occupied slot comes into use at the end: fronts and ends stay. Assumes nothing.
-use mathlib.Core.Path.{_≡_, refl, sym, ap, _∙_, subst}
-use mathlib.Core.Logic.{_≢_}
-use mathlib.Core.List.{List, [], _∷_, _++_}
-use Prim.Native.Nat.{ℕ, zero, suc, _+_, _-_, _≤_, _<_, _%_}
-use native.Mathlib.Decide.{ℕ-discrete, decLe, decLt}
+use mathlib.Core.Path.{_≡_, ap, _∙_}
+use mathlib.Core.List.{List}
+use Prim.Native.Nat.{ℕ, suc, _-_, _<_, _%_}
+use native.Mathlib.Decide.{ℕ-discrete}
 use native.Mathlib.Omega.{arith}
-use Rattle.rules.specs.Choice.{alike, times}
-use Rattle.rules.specs.Runs.{Front, Run}
-use Rattle.runs.proofs.Points.{alike-same, alike-other}
-use Rattle.runs.proofs.Runs.{par, make-run, run-same}
-use Rattle.runs.proofs.Fronts.{Fronts, Ended, fronts-once, same-times}
+use Rattle.rules.specs.Runs.{Front}
+use Rattle.runs.proofs.Runs.{par, make-run}
+use Rattle.runs.proofs.Fronts.{Fronts, Ended}
 
 -- Slot u, occupied, comes into use
 module _ (v v′ : ℕ → ℕ) (u : ℕ) (odd′ : v′ u % 2 ≡ 1) (same : (k : ℕ) → k < u → v′ k ≡ v k) where

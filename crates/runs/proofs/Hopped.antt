@@ -1,29 +1,28 @@
 -- The hop step on a sound table is the machine's. Assumes nothing.
-use mathlib.Core.Path.{_≡_, refl, sym, ap, _∙_, subst}
-use mathlib.Core.List.{List, [], _∷_, _++_}
+use mathlib.Core.Path.{_≡_, refl, sym, ap, _∙_}
+use mathlib.Core.List.{List}
 use mathlib.Core.Bool.{Bool, true, false}
-use Prim.Native.Nat.{ℕ, zero, suc, _+_, _-_, _≤_, _<_, _%_}
-use native.Mathlib.Decide.{ℕ-discrete, decLe, decLt}
+use Prim.Native.Nat.{ℕ, _+_, _-_, _≤_, _<_}
+use native.Mathlib.Decide.{ℕ-discrete, decLe}
 use native.Mathlib.Omega.{arith}
-use lib.Dec.{leb, eqb}
+use lib.Dec.{eqb}
 use borrow.Author.Tests.{eq-eqb, ne-eqb, le-leb, lt-leb}
 use Rattle.rules.specs.Choice.{pick}
 use Rattle.rules.specs.Words.{versionAt, otherEndAt, vacantAt, occupiedAt, vacantBy, occupiedBy}
-use Rattle.rules.specs.Values.{Values, plain, done, refused}
-use Rattle.rules.specs.Refusals.{damaged, staleCursor, shapeNumber}
+use Rattle.rules.specs.Values.{done, refused}
+use Rattle.rules.specs.Refusals.{damaged}
 use Rattle.rules.specs.Runs.{Front, Run, pastFront}
 use Rattle.rules.specs.Hop.{visit, hopFrom, hopRule}
 use Rattle.rules.specs.declared.Header.{Header}
 use Rattle.rules.proofs.Choice.{by-test}
 use Rattle.rules.proofs.HopSteps.{at-end, at-occupied, inside-run, over-run}
 use Rattle.runs.specs.Machine.{Machine, machineOf, backOf}
-use Rattle.runs.specs.Steps.{stays, visitOn, hopOn}
+use Rattle.runs.specs.Steps.{stays, hopOn}
 use Rattle.runs.specs.Tables.{Shows, Does}
 use Rattle.runs.proofs.Runs.{after-run}
-use Rattle.runs.proofs.Tests.{vacant-yes, vacant-is, occupied-yes, occupied-is, occupied-not, occupied-no}
+use Rattle.runs.proofs.Tests.{vacant-yes, occupied-yes, occupied-not, occupied-no}
 use Rattle.runs.proofs.RunTests.{front-by}
-use Rattle.runs.proofs.Backs.{back-of, run-from}
-use Rattle.runs.proofs.Linked.{Linked}
+use Rattle.runs.proofs.Backs.{run-from}
 use Rattle.runs.proofs.Sound.{LinkedTable, linked}
 use Rattle.runs.proofs.Shown.{entry-passes, unless-does}
 

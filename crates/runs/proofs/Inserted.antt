@@ -1,19 +1,18 @@
 -- Insert on a sound table: never refused with 2, and the machine's step. Assumes nothing.
 use mathlib.Core.Path.{_≡_, refl, sym, ap, _∙_, subst}
 use mathlib.Core.Logic.{_≢_}
-use mathlib.Core.List.{List, [], _∷_, _++_}
-use mathlib.Core.Bool.{Bool, true, false, not}
-use Prim.Native.Nat.{ℕ, zero, suc, _+_, _-_, _*_, _/_, _≤_, _<_, _%_}
+use mathlib.Core.List.{List}
+use mathlib.Core.Bool.{Bool, false, not}
+use Prim.Native.Nat.{ℕ, suc, _+_, _-_, _*_, _≤_, _<_, _%_}
 use native.Mathlib.Omega.{arith}
 use lib.ListN.{length}
-use lib.Dec.{ltb, eqb}
+use lib.Dec.{eqb}
 use borrow.Author.Tests.{eq-eqb, ne-eqb, lt-ltb, le-ltb, eqb-true, eqb-false, not-true, not-false}
 use Rattle.rules.specs.Choice.{pick, both}
 use Rattle.rules.specs.Words.{linkWords, rowWords, lentOf, versionAt, nextAt, prevAt, otherEndAt, setVersion, newSlot, rowAt, setRow, withBit}
 use Rattle.rules.specs.Headers.{oneMore, grown}
-use Rattle.rules.specs.Values.{Outcome, plain, keyed, unless}
-use Rattle.rules.specs.Refusals.{_▸_, passes, full, shapeNumber, sideNumber, sideEntryNumber}
-use Rattle.rules.specs.Runs.{Run, oddCount}
+use Rattle.rules.specs.Refusals.{_▸_, passes, full, shapeNumber, sideNumber}
+use Rattle.rules.specs.Runs.{oddCount}
 use Rattle.rules.specs.Insert.{insertLinks, lastSlot, runNumber, takeNumber, insertNumber, takeNew, takeSlot, shortened, insertStep, insertBy, insertRule}
 use Rattle.rules.specs.declared.Header.{Header}
 use Rattle.rules.specs.declared.steps.InsertLinks.{InsertLinks}
@@ -21,7 +20,7 @@ use Rattle.rules.proofs.Choice.{by-test, both-true, both-false}
 use Rattle.rules.proofs.Refusals.{passed}
 use Rattle.rules.proofs.Shape.{shaped}
 use Rattle.runs.specs.Points.{put}
-use Rattle.runs.specs.Machine.{Machine, first, later, backOf, machineOf}
+use Rattle.runs.specs.Machine.{Machine, first, later, machineOf}
 use Rattle.runs.specs.Steps.{Step, place, insertNumberOn, grownBy, filledBy, insertOn}
 use Rattle.runs.specs.Tables.{Shows, Does}
 use Rattle.runs.proofs.Points.{put-same, put-other}
@@ -29,11 +28,10 @@ use Rattle.runs.proofs.Words.{holds-below, version-put, length-link, ne
 use Rattle.runs.proofs.Rows.{row-below, row-put, row-new, length-row}
 use Rattle.runs.proofs.Counts.{odd-change, odd-more, odd-same}
 use Rattle.runs.proofs.Tests.{both-if}
-use Rattle.runs.proofs.Linked.{Linked}
 use Rattle.runs.proofs.Followed.{insert-h, insert-b, insert-before, insert-n, insert-n-not-h, insert-room}
 use Rattle.runs.proofs.Sound.{LinkedTable, linked}
 use Rattle.runs.proofs.Shown.{skipped, side-alone, still-shaped, shows, unless-does}
-use Rattle.runs.proofs.Filling.{first-is, place-is, grown-linked, filled-linked, shortened-versions, shortened-length}
+use Rattle.runs.proofs.Filling.{place-is, grown-linked, filled-linked, shortened-versions, shortened-length}
 use Rattle.runs.proofs.Removed.{not-astray}
 
 module _ (l : List ℕ) (hd : Header) (after : List ℕ) (L : LinkedTable l (hd .used) after)

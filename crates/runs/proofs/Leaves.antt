@@ -1,28 +1,28 @@
 -- What the removal of the chosen leaves in a sound table, for any choice: every version and row, used, and the count, which is
 -- live before less live after. So for retain and for clear. Assumes nothing.
-use mathlib.Core.Path.{_≡_, refl, sym, ap, _∙_, subst}
+use mathlib.Core.Path.{_≡_, refl, sym, ap, _∙_}
 use mathlib.Core.List.{List}
 use mathlib.Core.Bool.{Bool, true, false}
-use Prim.Native.Nat.{ℕ, _+_, _-_, _≤_, _<_, _%_}
+use Prim.Native.Nat.{ℕ, _+_, _-_, _<_, _%_}
 use native.Mathlib.Decide.{ℕ-discrete}
 use native.Mathlib.Omega.{arith}
 use lib.ListN.{length}
-use lib.Dec.{ltb, eqb}
+use lib.Dec.{ltb}
 use borrow.Author.Tests.{lt-ltb, eq-eqb}
 use Rattle.rules.specs.Choice.{pick, both}
-use Rattle.rules.specs.Words.{zeroRow, rise, isOdd, versionAt, rowAt, occupiedBy}
+use Rattle.rules.specs.Words.{zeroRow, rise, versionAt, rowAt, occupiedBy}
 use Rattle.rules.specs.Values.{Values, Outcome, plain, counted}
-use Rattle.rules.specs.Refusals.{_▸_, passes, sideNumber}
+use Rattle.rules.specs.Refusals.{_▸_, sideNumber}
 use Rattle.rules.specs.Clear.{clearRule}
 use Rattle.rules.specs.Retain.{removeChosen, struckBy, retainRule}
 use Rattle.rules.specs.declared.Header.{Header}
-use Rattle.rules.proofs.Choice.{by-test}
-use Rattle.runs.specs.Machine.{Machine, liveOf, machineOf}
-use Rattle.runs.specs.Steps.{Step, stays, strike, all, retainOn, clearOn}
-use Rattle.runs.specs.Tables.{Shows, Does}
+use Rattle.runs.specs.Machine.{Machine, liveOf}
+use Rattle.runs.specs.Steps.{Step, stays}
+use Rattle.runs.specs.WholeTable.{strike, all, retainOn, clearOn}
+use Rattle.runs.specs.Tables.{Shows}
 use Rattle.runs.proofs.Counts.{odd-none}
 use Rattle.runs.proofs.Tests.{occupied-no}
-use Rattle.runs.proofs.Struck.{goes, Left, left, rise-even}
+use Rattle.runs.proofs.Struck.{goes, left, rise-even}
 use Rattle.runs.proofs.Drained.{live-is}
 use Rattle.runs.proofs.Chosen.{chosen-does, clear-does, retain-does}
 

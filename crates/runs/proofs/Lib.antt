@@ -22,6 +22,8 @@ pub mod Freed
 pub mod Filled
 pub mod Grown
 pub mod Linked
+pub mod Joined
+pub mod Taken
 -- Sound, as the rules say it, is a linked table with its count, its chain unique; the check accepts exactly that; relinking makes it.
 pub mod Sound
 pub mod Circles

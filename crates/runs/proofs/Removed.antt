@@ -1,24 +1,23 @@
 -- Remove on a sound table, and the removal of an occupied slot: never refused with 2, and the machine's step. Assumes nothing.
 use mathlib.Core.Path.{_≡_, refl, sym, ap, _∙_, subst}
-use mathlib.Core.List.{List, [], _∷_, _++_}
-use mathlib.Core.Bool.{Bool, true, false, not}
-use Prim.Native.Nat.{ℕ, zero, suc, _+_, _-_, _*_, _≤_, _<_, _%_}
+use mathlib.Core.List.{List}
+use mathlib.Core.Bool.{true, false, not}
+use Prim.Native.Nat.{ℕ, zero, suc, _-_, _*_, _≤_, _<_, _%_}
 use native.Mathlib.Omega.{arith}
 use lib.ListN.{length}
-use lib.Dec.{ltb, eqb}
-use borrow.Author.Tests.{eq-eqb, ne-eqb, le-ltb, lt-ltb, eqb-true, ltb-true, not-true, not-false}
-use Rattle.rules.specs.Choice.{pick, both}
-use Rattle.rules.specs.Words.{linkWords, rowWords, lentOf, versionAt, nextAt, prevAt, otherEndAt, setVersion, zeroRow, rowAt, setRow, isOdd, rise, vacantBy, vacantAt, occupiedBy, occupiedAt, keyAt}
+use lib.Dec.{ltb}
+use borrow.Author.Tests.{ne-eqb, le-ltb, eqb-true, not-false}
+use Rattle.rules.specs.Choice.{both}
+use Rattle.rules.specs.Words.{linkWords, rowWords, versionAt, nextAt, prevAt, otherEndAt, setVersion, zeroRow, rowAt, setRow, isOdd, rise, vacantBy, vacantAt, occupiedBy, occupiedAt}
 use Rattle.rules.specs.Headers.{oneLess}
-use Rattle.rules.specs.Values.{Outcome, plain, keyed, unless}
-use Rattle.rules.specs.Refusals.{astray, passes, shapeNumber, liveBy, liveKey, liveNumber, _▸_}
+use Rattle.rules.specs.Values.{Outcome, unless}
+use Rattle.rules.specs.Refusals.{astray, passes, shapeNumber, liveBy, liveKey, liveNumber}
 use Rattle.rules.specs.Access.{keyNumber}
-use Rattle.rules.specs.Runs.{Front, Run, oddCount}
+use Rattle.rules.specs.Runs.{oddCount}
 use Rattle.rules.specs.Remove.{beside, apartNumber, leftNumber, rightNumber, removeNumber, freed as freedLinks, removeStep, removeBy, removeSlot, removeAt, removeRule}
 use Rattle.rules.specs.declared.Header.{Header}
 use Rattle.rules.specs.declared.Key.{Key}
-use Rattle.rules.specs.declared.steps.Beside.{Beside}
-use Rattle.rules.proofs.Choice.{by-test, both-true}
+use Rattle.rules.proofs.Choice.{both-true}
 use Rattle.rules.proofs.Refusals.{passed}
 use Rattle.rules.proofs.Shape.{shaped}
 use Rattle.rules.proofs.RemoveSteps.{removed-slot}
@@ -27,11 +26,10 @@ use Rattle.runs.specs.Machine.{Machine, keyOf, machineOf, frontsAfter}
 use Rattle.runs.specs.Steps.{keyNumberOn, freed, takenOut, removeOn}
 use Rattle.runs.specs.Tables.{Shows, Does}
 use Rattle.runs.proofs.Points.{put-same, put-other}
-use Rattle.runs.proofs.Tests.{both-if, vacant-yes, vacant-is, vacant-not, occupied-is}
+use Rattle.runs.proofs.Tests.{both-if, vacant-yes, vacant-is, occupied-is}
 use Rattle.runs.proofs.Words.{holds-below, version-put, length-link}
 use Rattle.runs.proofs.Rows.{row-below, row-put, length-row}
-use Rattle.runs.proofs.Counts.{odd-change, odd-some, odd-but-one}
-use Rattle.runs.proofs.Linked.{Linked}
+use Rattle.runs.proofs.Counts.{odd-change, odd-some}
 use Rattle.runs.proofs.Followed.{IsVacant, remove-t, remove-right-links, remove-left-link}
 use Rattle.runs.proofs.Freeing.{near, near-is, freed-linked, freed-versions, freed-length}
 use Rattle.runs.proofs.Sound.{LinkedTable, linked}

@@ -1,21 +1,18 @@
 -- The way from live slot to live slot, the next one taken before the removal, removes the chosen in rising order. Assumes nothing.
 use mathlib.Core.Path.{_≡_, refl, sym, ap, _∙_, subst}
-use mathlib.Core.Logic.{_≢_}
-use mathlib.Core.List.{List, [], _∷_, _++_}
-use mathlib.Core.Bool.{Bool, true, false}
-use Prim.Native.Nat.{ℕ, zero, suc, _+_, _-_, _≤_, _<_, _%_, _^_}
+use mathlib.Core.List.{List}
+use mathlib.Core.Bool.{Bool, true}
+use Prim.Native.Nat.{ℕ, zero, suc, _+_, _-_, _≤_, _<_, _%_}
 use native.Mathlib.Decide.{ℕ-discrete, decLt}
 use native.Mathlib.Omega.{arith}
 use lib.Dec.{ltb}
-use borrow.Author.Tests.{le-ltb, lt-ltb}
+use borrow.Author.Tests.{le-ltb}
 use Rattle.rules.specs.Choice.{pick, both}
-use Rattle.rules.specs.Words.{limit, lentOf, versionAt, otherEndAt, rise, isOdd, vacantBy, vacantAt, occupiedBy, occupiedAt, keyAt}
+use Rattle.rules.specs.Words.{versionAt, otherEndAt, rise, isOdd, vacantBy, vacantAt, occupiedBy, occupiedAt}
 use Rattle.rules.specs.Values.{Outcome, plain, counted}
 use Rattle.rules.specs.Refusals.{shapeNumber, sideNumber, zeroNumber, sideEntryNumber}
-use Rattle.rules.specs.Remove.{removeAt, removeSlot}
 use Rattle.rules.specs.Retain.{removeIf, removeChosen, struckBy, retainNumber}
-use Rattle.rules.specs.Runs.{Front, Run, oddCount}
-use Rattle.rules.specs.Sound.{Sound}
+use Rattle.rules.specs.Runs.{Run, oddCount}
 use Rattle.rules.specs.declared.Header.{Header}
 use Rattle.rules.proofs.Choice.{by-test}
 use Rattle.rules.proofs.Refusals.{passed}
@@ -23,16 +20,16 @@ use Rattle.rules.proofs.Headers.{risen}
 use Rattle.rules.proofs.Shape.{shaped}
 use Rattle.rules.proofs.RemoveSteps.{removed-slot}
 use Rattle.runs.specs.Machine.{Machine, liveOf, backOf, machineOf}
-use Rattle.runs.specs.Steps.{stays, strike, lowest}
-use Rattle.runs.specs.Tables.{Shows, Does}
+use Rattle.runs.specs.Steps.{lowest}
+use Rattle.runs.specs.WholeTable.{strike}
+use Rattle.runs.specs.Tables.{Shows}
 use Rattle.runs.specs.Scans.{Scan, nextSlot, strikeOut, scanOne, scanStart, scans}
 use Rattle.runs.proofs.Counts.{odd-more, odd-none, odd-rises}
 use Rattle.runs.proofs.Runs.{par, after-run}
 use Rattle.runs.proofs.Tests.{vacant-is, vacant-not, occupied-yes, occupied-no}
 use Rattle.runs.proofs.Backs.{run-from}
-use Rattle.runs.proofs.Linked.{Linked}
 use Rattle.runs.proofs.Sound.{LinkedTable, linked}
-use Rattle.runs.proofs.Struck.{Left, left}
+use Rattle.runs.proofs.Struck.{left}
 use Rattle.runs.proofs.Drains.{Headed, zero-run, none-lower, lowest-live}
 use Rattle.runs.proofs.Drained.{headed, live-is, lowest-is}
 use Rattle.runs.proofs.Checked.{sound-passed}

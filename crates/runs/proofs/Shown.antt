@@ -1,28 +1,25 @@
 -- A table that is a machine: what its entry tests answer, and how a call that is refused or goes through is a step. Assumes nothing.
 use mathlib.Core.Path.{_≡_, refl, sym, ap, _∙_, subst}
-use mathlib.Core.List.{List, [], _∷_, _++_}
-use mathlib.Core.Bool.{Bool, true, false}
-use Prim.Native.Nat.{ℕ, zero, suc, _+_, _-_, _/_, _≤_, _<_, _%_}
+use mathlib.Core.List.{List}
+use mathlib.Core.Bool.{Bool, false}
+use Prim.Native.Nat.{ℕ, _-_, _/_, _≤_, _<_, _%_}
 use native.Mathlib.Omega.{arith}
 use lib.ListN.{length}
-use lib.Dec.{ltb, eqb}
-use borrow.Author.Tests.{eq-eqb, ne-eqb, le-ltb, eqb-true, eqb-false}
+use lib.Dec.{eqb}
+use borrow.Author.Tests.{ne-eqb, le-ltb, eqb-true}
 use Rattle.rules.specs.Choice.{pick}
 use Rattle.rules.specs.Words.{lentOf, linkWords, versionAt, isOdd}
-use Rattle.rules.specs.Values.{Outcome, Values, plain, refused, refusal, unless}
+use Rattle.rules.specs.Values.{Outcome, refused, refusal, unless}
 use Rattle.rules.specs.Refusals.{_▸_, passes, damaged, lentNumber, headerNumber, shapeNumber, sideNumber, zeroNumber, entryNumber, sideEntryNumber}
 use Rattle.rules.specs.Runs.{oddCount}
-use Rattle.rules.specs.Sound.{Sound}
 use Rattle.rules.specs.declared.Header.{Header}
 use Rattle.rules.proofs.Choice.{by-test}
 use Rattle.rules.proofs.Refusals.{passed}
-use Rattle.rules.proofs.Shape.{Shaped, shaped}
+use Rattle.rules.proofs.Shape.{shaped}
 use Rattle.runs.specs.Machine.{Machine, machineOf, headerOf}
 use Rattle.runs.specs.Steps.{Step, stays, stepUnless}
 use Rattle.runs.specs.Tables.{Shows, Does}
-use Rattle.runs.proofs.Counts.{odd-but-one}
-use Rattle.runs.proofs.Linked.{Linked}
-use Rattle.runs.proofs.Sound.{LinkedTable, linked, sound, sound-chain, one-chain}
+use Rattle.runs.proofs.Sound.{LinkedTable, sound, sound-chain, one-chain}
 
 -- a test of a chain that does not hold leaves the number
 pub skipped : (n : ℕ) (t : Bool) (k : ℕ) → t ≡ false → (n ▸ (t, k)) ≡ n

@@ -1,18 +1,17 @@
 -- A sound table, as the rules say it, is a linked table with its count; and the chain is unique. Assumes nothing.
 use mathlib.Core.Path.{_≡_, refl, sym, ap, _∙_, subst}
-use mathlib.Core.List.{List, [], _∷_, _++_}
-use Prim.Native.Nat.{ℕ, zero, suc, _+_, _≤_, _<_, _%_}
+use mathlib.Core.List.{List, [], _∷_}
+use Prim.Native.Nat.{ℕ, _≤_}
 use native.Mathlib.Decide.{ℕ-discrete}
 use native.Mathlib.Omega.{arith}
-use Rattle.rules.specs.Choice.{alike, times}
+use Rattle.rules.specs.Choice.{times}
 use Rattle.rules.specs.Words.{versionAt, nextAt, prevAt, otherEndAt}
-use Rattle.rules.specs.Runs.{Front, Run, oddCount}
-use Rattle.rules.specs.Sound.{ZeroEven, LiveCount, Follows, Circle, Ends, Sound}
+use Rattle.rules.specs.Runs.{oddCount}
+use Rattle.rules.specs.Sound.{Follows, Sound}
 use Rattle.rules.specs.declared.Header.{Header}
 use Rattle.runs.proofs.Points.{alike-same, alike-other}
-use Rattle.runs.proofs.Times.{times-append, times-split}
 use Rattle.runs.proofs.Segments.{Seg, seg-unique}
-use Rattle.runs.proofs.Fronts.{Fronts, Ended, fronts-once}
+use Rattle.runs.proofs.Fronts.{Fronts, fronts-once}
 use Rattle.runs.proofs.Linked.{Linked}
 
 -- the words of a table, as functions of the slot

@@ -1,7 +1,6 @@
 -- The chosen removed in rising order, for any choice, on the machine: what is left, and how many went. Assumes nothing.
 use mathlib.Core.Path.{_≡_, refl, sym, ap, _∙_, subst}
 use mathlib.Core.Logic.{_≢_}
-use mathlib.Core.List.{List}
 use mathlib.Core.Bool.{Bool, true, false}
 use Prim.Native.Nat.{ℕ, zero, suc, _+_, _-_, _≤_, _<_, _%_}
 use native.Mathlib.Decide.{ℕ-discrete, decLt}
@@ -10,11 +9,11 @@ use lib.Dec.{ltb}
 use borrow.Author.Tests.{lt-ltb, le-ltb}
 use Rattle.rules.specs.Choice.{pick, both}
 use Rattle.rules.specs.Words.{zeroRow, isOdd, rise, occupiedBy}
-use Rattle.rules.specs.Runs.{oddCount}
 use Rattle.rules.proofs.Choice.{by-test, both-true}
 use Rattle.runs.specs.Points.{put}
 use Rattle.runs.specs.Machine.{Machine, liveOf}
-use Rattle.runs.specs.Steps.{freed, Struck, strikeIf, strike}
+use Rattle.runs.specs.Steps.{freed}
+use Rattle.runs.specs.WholeTable.{Struck, strikeIf, strike}
 use Rattle.runs.proofs.Points.{put-same, put-other}
 use Rattle.runs.proofs.Counts.{odd-change}
 use Rattle.runs.proofs.Tests.{occupied-is}

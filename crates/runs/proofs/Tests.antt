@@ -1,11 +1,11 @@
 -- The tests of a slot, by the facts that they stand for. Assumes nothing.
-use mathlib.Core.Path.{_≡_, refl, ap, _∙_, subst}
+use mathlib.Core.Path.{_≡_, refl}
 use mathlib.Core.Bool.{Bool, true, false}
-use Prim.Native.Nat.{ℕ, zero, suc, _-_, _≤_, _<_, _%_}
+use Prim.Native.Nat.{ℕ, _-_, _<_, _%_}
 use native.Mathlib.Omega.{arith}
 use lib.Dec.{ltb, eqb}
-use borrow.Author.Tests.{eq-eqb, ne-eqb, lt-ltb, le-ltb, eqb-true, eqb-false, ltb-true}
-use Rattle.rules.specs.Choice.{pick, both}
+use borrow.Author.Tests.{eq-eqb, ne-eqb, lt-ltb, eqb-true, eqb-false, ltb-true}
+use Rattle.rules.specs.Choice.{both}
 use Rattle.rules.specs.Words.{isOdd, isEven, vacantBy, occupiedBy}
 use Rattle.rules.proofs.Choice.{both-true, both-false}
 

@@ -1,9 +1,8 @@
 -- How often a number stands in a list: membership and no repeats in one count. Assumes nothing.
-use mathlib.Core.Path.{_≡_, refl, sym, ap, _∙_, subst}
-use mathlib.Core.Logic.{_≢_}
+use mathlib.Core.Path.{_≡_, sym, ap, subst}
 use mathlib.Core.List.{List, [], _∷_, _++_}
-use Prim.Native.Nat.{ℕ, zero, suc, _+_, _-_, _≤_, _<_, _%_}
-use native.Mathlib.Decide.{ℕ-discrete, decLe, decLt}
+use Prim.Native.Nat.{ℕ, suc, _+_, _-_, _≤_}
+use native.Mathlib.Decide.{ℕ-discrete}
 use native.Mathlib.Omega.{arith}
 use lib.ListN.{length, length-append}
 use Rattle.rules.specs.Choice.{alike, times}

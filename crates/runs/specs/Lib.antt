@@ -5,6 +5,7 @@ pub mod Points
 pub mod Rising
 pub mod Machine
 pub mod Steps
+pub mod WholeTable
 pub mod Tables
 pub mod Walks
 pub mod Scans

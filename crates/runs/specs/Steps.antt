@@ -1,15 +1,15 @@
 -- The machine's own step for every call, refusals of a side buffer (1), of a key (3, 4), 5 and 6 included. It never gives 2.
-use Prim.Native.Nat.{ℕ, zero, suc, _+_, _-_}
-use mathlib.Core.List.{List, [], _∷_, _++_}
-use mathlib.Core.Bool.{Bool, true, not}
+-- Those on the whole table are in WholeTable.
+use Prim.Native.Nat.{ℕ, _+_}
+use mathlib.Core.List.{List, []}
+use mathlib.Core.Bool.{not}
 use lib.ListN.{length}
 use lib.Dec.{leb, eqb}
 use Rattle.rules.specs.Choice.{pick, both}
-use Rattle.rules.specs.Words.{rowWords, zeroRow, isEven, withBit, rise, vacantBy, occupiedBy}
-use Rattle.rules.specs.Values.{Values, keyed, visited, counted, done, refused}
+use Rattle.rules.specs.Words.{rowWords, zeroRow, isEven, withBit, rise, occupiedBy}
+use Rattle.rules.specs.Values.{Values, keyed, visited, done, refused}
 use Rattle.rules.specs.Refusals.{_▸_, passes, evenVersion, notLive, full, staleCursor, sideNumber, liveBy}
 use Rattle.rules.specs.Runs.{pastFront}
-use Rattle.rules.specs.Retain.{struckBy}
 use Rattle.rules.specs.declared.Key.{Key}
 use Rattle.runs.specs.Points.{put}
 use Rattle.runs.specs.Machine.{Machine, liveOf, keyOf, backOf, first, later, frontsAfter}
@@ -132,55 +132,3 @@ lowest m = backOf (m .versions) (m .used) 0 + 1
 
 unfoldable pub drainOn : Machine → Step
 drainOn m = pick (eqb (liveOf m) 0) (stays m done) (takenOut m (keyOf m (lowest m)))
-
--- the drain step n times over
-unfoldable pub drainsOn : ℕ → Machine → Machine
-drainsOn zero m = m
-drainsOn (suc n) m = drainsOn n (drainOn m .machine)
-
--- the chosen among the slots below n go, in rising order; how many went
-pub record Struck : Type 0 where
-  pub count : ℕ
-  pub machine : Machine
-
-unfoldable pub strikeIf : (ℕ → Bool) → ℕ → Struck → Struck
-strikeIf chosen i s =
-    pick (both (occupiedBy (s .machine .versions) (s .machine .used) i) (chosen i))
-    (record { count = s .count + 1; machine = freed (s .machine) i }) s
-
-unfoldable pub strike : (ℕ → Bool) → ℕ → Machine → Struck
-strike chosen zero m = record { count = 0; machine = m }
-strike chosen (suc n) m = strikeIf chosen n (strike chosen n m)
-
--- clear, retain
-abbrev pub all : ℕ → Bool
-all i = true
-
-unfoldable pub clearOn : Machine → Step
-clearOn m = stays (strike all (m .used) m .machine) done
-
-unfoldable pub retainOn : Machine → List ℕ → Step
-retainOn m bytes =
-    stepUnless m (sideNumber passes (length bytes) (m .used))
-    (let s = strike (struckBy bytes) (m .used) m in stays (s .machine) (counted (s .count)))
-
--- the soundness check, room
-abbrev pub soundOn : Machine → Step
-soundOn m = stays m done
-
-abbrev pub roomOn : Machine → Step
-roomOn m = stays m (counted (m .lent - liveOf m))
-
--- where a machine begins: start; rebuild of n slots, with the fronts it chains
-abbrev pub startOn : ℕ → Machine
-startOn lent = record { versions = λ _. 0; rows = λ _. zeroRow; used = 1; fronts = []; lent = lent }
-
-abbrev pub rebuildOn : (ℕ → ℕ) → (ℕ → List ℕ) → ℕ → List ℕ → ℕ → Machine
-rebuildOn v rows n fronts lent =
-    record {
-      versions = v;
-      rows = λ i. pick (vacantBy v n i) zeroRow (rows i);
-      used = n;
-      fronts = fronts;
-      lent = lent;
-    }

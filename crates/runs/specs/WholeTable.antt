@@ -1,0 +1,65 @@
+-- The machine's steps on the whole table: draining, the removal of the chosen, clear, retain, the soundness check, room; and where a
+-- machine begins: start and rebuild.
+use Prim.Native.Nat.{ℕ, zero, suc, _+_, _-_}
+use mathlib.Core.List.{List, []}
+use mathlib.Core.Bool.{Bool, true}
+use lib.ListN.{length}
+use Rattle.rules.specs.Choice.{pick, both}
+use Rattle.rules.specs.Words.{zeroRow, vacantBy, occupiedBy}
+use Rattle.rules.specs.Values.{counted, done}
+use Rattle.rules.specs.Refusals.{passes, sideNumber}
+use Rattle.rules.specs.Retain.{struckBy}
+use Rattle.runs.specs.Machine.{Machine, liveOf}
+use Rattle.runs.specs.Steps.{Step, stays, stepUnless, freed, drainOn}
+
+-- the drain step n times over
+unfoldable pub drainsOn : ℕ → Machine → Machine
+drainsOn zero m = m
+drainsOn (suc n) m = drainsOn n (drainOn m .machine)
+
+-- the chosen among the slots below n go, in rising order; how many went
+pub record Struck : Type 0 where
+  pub count : ℕ
+  pub machine : Machine
+
+unfoldable pub strikeIf : (ℕ → Bool) → ℕ → Struck → Struck
+strikeIf chosen i s =
+    pick (both (occupiedBy (s .machine .versions) (s .machine .used) i) (chosen i))
+    (record { count = s .count + 1; machine = freed (s .machine) i }) s
+
+unfoldable pub strike : (ℕ → Bool) → ℕ → Machine → Struck
+strike chosen zero m = record { count = 0; machine = m }
+strike chosen (suc n) m = strikeIf chosen n (strike chosen n m)
+
+-- clear, retain
+abbrev pub all : ℕ → Bool
+all i = true
+
+unfoldable pub clearOn : Machine → Step
+clearOn m = stays (strike all (m .used) m .machine) done
+
+unfoldable pub retainOn : Machine → List ℕ → Step
+retainOn m bytes =
+    stepUnless m (sideNumber passes (length bytes) (m .used))
+    (let s = strike (struckBy bytes) (m .used) m in stays (s .machine) (counted (s .count)))
+
+-- the soundness check, room
+abbrev pub soundOn : Machine → Step
+soundOn m = stays m done
+
+abbrev pub roomOn : Machine → Step
+roomOn m = stays m (counted (m .lent - liveOf m))
+
+-- where a machine begins: start; rebuild of n slots, with the fronts it chains
+abbrev pub startOn : ℕ → Machine
+startOn lent = record { versions = λ _. 0; rows = λ _. zeroRow; used = 1; fronts = []; lent = lent }
+
+abbrev pub rebuildOn : (ℕ → ℕ) → (ℕ → List ℕ) → ℕ → List ℕ → ℕ → Machine
+rebuildOn v rows n fronts lent =
+    record {
+      versions = v;
+      rows = λ i. pick (vacantBy v n i) zeroRow (rows i);
+      used = n;
+      fronts = fronts;
+      lent = lent;
+    }
