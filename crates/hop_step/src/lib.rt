@@ -4,10 +4,9 @@ ghost use mathlib.Core.Bool.{true};
 ghost use Prim.Native.Nat.{_<_};
 ghost use lib.Dec.{eqb};
 ghost use Rattle.rules.specs.Choice.{pick};
-ghost use Rattle.rules.specs.Words.{versionAt, vacantAt, occupiedAt};
+ghost use Rattle.rules.specs.Words.{vacantAt, occupiedAt};
 ghost use Rattle.rules.specs.Values.{ofHop, done, refused, hopped};
 ghost use Rattle.rules.specs.Refusals.{damaged};
-ghost use Rattle.rules.specs.Runs.{pastFront};
 ghost use Rattle.rules.specs.Hop.{visit, hopFrom, hopRule};
 use refusals::entry_number;
 use rules::Cursor;
@@ -17,8 +16,7 @@ use rules::HopAnswer;
 use rules::Hopped;
 use rules::Key;
 use rules::STALE_CURSOR;
-use slots::choice::both;
-use slots::choice::one_below;
+use slots::runs::past_front;
 use slots::words::occupied;
 use slots::words::other_end;
 use slots::words::vacant;
@@ -34,14 +32,6 @@ fn visit(links: &[u32], used: u32, i: u32) -> HopAnswer
         version: version(links, used, i),
     };
     HopAnswer::Visited(key, i + 1)
-}
-
-// Slot i is vacant, and so is the one before it.
-fn past_front(links: &[u32], used: u32, i: u32) -> bool
-    ensures { λ r. ⌜ r ≡ pastFront (versionAt (now (links .entry)) used) used i ⌝ }
-{
-    let before = both(0 < i, vacant(links, used, one_below(i)));
-    both(vacant(links, used, i), before)
 }
 
 // The slot q after a run: the end at used, else its key.

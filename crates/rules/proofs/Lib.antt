@@ -1,5 +1,6 @@
 -- Laws of the rules.
 pub mod Choice
+pub mod Below
 pub mod Refusals
 pub mod Headers
 pub mod Shape

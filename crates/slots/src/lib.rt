@@ -3,4 +3,5 @@
 pub mod choice;
 pub mod headers;
 pub mod rows;
+pub mod runs;
 pub mod words;

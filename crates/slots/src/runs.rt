@@ -1,0 +1,47 @@
+// Runs of vacant slots, as the versions tell them: where a run starts, where it ends; and how many versions are odd.
+ghost use mathlib.Core.Path.{_≡_};
+ghost use Rattle.rules.specs.Words.{versionAt};
+ghost use Rattle.rules.specs.Runs.{pastFront, isFront, isBack, oddCount};
+use crate::choice::both;
+use crate::choice::one_below;
+use crate::choice::one_if;
+use crate::words::vacant;
+use crate::words::version;
+
+// Slot i is vacant, and so is the one before it.
+pub fn past_front(links: &[u32], used: u32, i: u32) -> bool
+    ensures { λ r. ⌜ r ≡ pastFront (versionAt (now (links .entry)) used) used i ⌝ }
+{
+    let before = both(0 < i, vacant(links, used, one_below(i)));
+    both(vacant(links, used, i), before)
+}
+
+// Slot i is a run's front.
+pub fn is_front(links: &[u32], used: u32, i: u32) -> bool
+    ensures { λ r. ⌜ r ≡ isFront (versionAt (now (links .entry)) used) used i ⌝ }
+{
+    both(vacant(links, used, i), !past_front(links, used, i))
+}
+
+// Slot i is a run's back.
+pub fn is_back(links: &[u32], used: u32, i: u32) -> bool
+    ensures { λ r. ⌜ r ≡ isBack (versionAt (now (links .entry)) used) used i ⌝ }
+{
+    if used <= i {
+        return false;
+    }
+    both(vacant(links, used, i), !vacant(links, used, i + 1))
+}
+
+// How many versions below used are odd.
+pub fn odd_count(links: &[u32], used: u32) -> u32
+    ensures { λ r. ⌜ r ≡ oddCount (versionAt (now (links .entry)) used) used ⌝ }
+{
+    let mut count: u32 = 0;
+    let mut i: u32 = 0;
+    while i < used {
+        count += one_if(version(links, used, i) % 2 == 1);
+        i += 1;
+    }
+    count
+}
