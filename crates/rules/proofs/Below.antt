@@ -6,20 +6,22 @@ use native.Mathlib.Numerals.{add-one}
 use native.Mathlib.Omega.{arith}
 use Rattle.rules.specs.Choice.{both, one-if, allBelow, countBelow}
 
-pub all-next : (n : ℕ) (t : ℕ → Bool) → allBelow (n + 1) t ≡ both (allBelow n t) (t n)
+-- all so far, and the next one
+pub all-on : (n : ℕ) (t : ℕ → Bool) (a : Bool) → a ≡ allBelow n t → (b : Bool) → b ≡ both a (t n) → b ≡ allBelow (n + 1) t
 unfolding allBelow
-all-next n t = rw add-one
-
-pub count-next : (n : ℕ) (t : ℕ → Bool) → countBelow (n + 1) t ≡ countBelow n t + one-if (t n)
-unfolding countBelow
-count-next n t = rw add-one
+all-on n t a e b d = rw (add-one, d, e)
 
 one-most : (t : Bool) → one-if t ≤ 1
 one-most true = omega arith
 one-most false = omega arith
 
--- no more than there are numbers
-pub count-most : (n : ℕ) (t : ℕ → Bool) → countBelow n t ≤ n
+count-most : (n : ℕ) (t : ℕ → Bool) → countBelow n t ≤ n
 unfolding countBelow
 count-most zero t = omega arith
 count-most (suc n) t = omega (arith, count-most n t, one-most (t n))
+
+-- the count so far, and the next one: no more than there are numbers
+pub count-on : (n : ℕ) (t : ℕ → Bool) (k : ℕ) → k ≡ countBelow n t → (o : ℕ) → o ≡ one-if (t n) → (k + o ≡ countBelow (n + 1) t) × (k + o ≤ n + 1)
+unfolding countBelow
+count-on n t k e o d =
+    (rw (add-one, e, d), omega (arith, e, d, count-most n t, one-most (t n)))

@@ -9,6 +9,7 @@ pub mod Full
 pub mod HopSteps
 pub mod RemoveSteps
 pub mod Outcomes
+pub mod Check
 pub mod Access
 pub mod Settled
 pub mod Rows

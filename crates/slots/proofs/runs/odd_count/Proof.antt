@@ -1,11 +1,10 @@
 -- `slots::runs::odd_count` meets its contract. The loop's invariant: the count so far is that of the slots passed. Assumes nothing.
 use Rattle.rules.specs.Choice.{countBelow}
 use Rattle.rules.specs.Words.{isOdd, versionAt}
-use Rattle.rules.proofs.Below.{count-next, count-most}
-use Prim.Native.Nat.{ℕ, _+_, _-_, _≤_}
+use Rattle.rules.proofs.Below.{count-on}
+use Prim.Native.Nat.{ℕ, _-_, _≤_}
 use mathlib.Core.Path.{_≡_}
 use native.Mathlib.Omega.{arith}
-use denote.Ref.{now}
 use borrow.Author.Needs.{needs}
 use Rattle.slots.proofs.runs.odd_count.Statement.{statement}
 use Rattle.slots.proofs.runs.odd_count.Tie as tie
@@ -26,13 +25,9 @@ version-requires c κs = search needs
 one-if-requires : tie.Need-one-if-requires Inv-loop μ-loop
 one-if-requires c κs = search needs
 
--- the count after slot i
-counted : (c : tie.After-one-if Inv-loop μ-loop) → c .before .before .before .loop .count + c .one-if .result ≡ countBelow (c .before .before .before .loop .i + 1) (λ (j : ℕ). isOdd (versionAt (now (c .before .before .before .before .before .args .links)) (c .before .before .before .before .before .args .used) j))
-counted c = rw count-next (cc)
-
 add-count : tie.Need-add-count Inv-loop μ-loop
 add-count c =
-    let few : c .before .before .before .loop .count + c .one-if .result ≤ c .before .before .before .loop .i + 1 = rw (counted c) (count-most _ _) in
+    let next = count-on _ _ _ (c .before .before .before .loop .inv .1) (c .one-if .result) (cc) in
     omega arith
 
 add-i : tie.Need-add-i Inv-loop μ-loop
@@ -42,7 +37,7 @@ loop-less : tie.Need-loop-less Inv-loop μ-loop
 loop-less c = search needs
 
 loop-again : tie.Need-loop-again Inv-loop μ-loop
-loop-again c = (omega arith, counted c)
+loop-again c = (omega arith, count-on _ _ _ (c .before .before .before .loop .inv .1) (c .one-if .result) (cc) .0)
 
 returns : tie.Need-returns Inv-loop μ-loop
 returns c =

@@ -1,0 +1,41 @@
+-- `sound::ends::meet_at` meets its contract. Assumes nothing.
+use borrow.Author.Needs.{needs}
+use borrow.Author.Tests.{not-true, not-false}
+use Rattle.sound.proofs.ends.meet_at.Statement.{statement}
+use Rattle.sound.proofs.ends.meet_at.Tie as tie
+
+other-end-requires : tie.Need-other-end-requires
+other-end-requires c κs = search needs
+
+other-end-requires-2 : tie.Need-other-end-requires-2
+other-end-requires-2 c κs = search needs
+
+is-back-requires : tie.Need-is-back-requires
+is-back-requires c κs = search needs
+
+returns : tie.Need-returns
+returns c = rw (← c .before .is-back .ensures, not-true (c .before .is-back .result) (c .if1 .taken))
+
+both-requires : tie.Need-both-requires
+both-requires c κs = search needs
+
+returns-2 : tie.Need-returns-2
+returns-2 c =
+    rw (
+      c .both .ensures,
+      ← c .before .before .is-back .ensures,
+      not-false (c .before .before .is-back .result) (c .before .if1 .left),
+      c .before .before .before .other-end2 .ensures,
+      c .before .before .before .before .other-end .ensures,
+    )
+
+pub meet-at-spec : {M : Type 1} → statement M
+meet-at-spec =
+    tie.close
+    (tie.spec
+    other-end-requires
+    other-end-requires-2
+    is-back-requires
+    returns
+    both-requires
+    returns-2)

@@ -1,0 +1,51 @@
+// The chain is one circle: from slot 0 over the front of every run, and back.
+ghost use mathlib.Core.Path.{_≡_};
+ghost use Rattle.rules.specs.Words.{versionAt};
+ghost use Rattle.rules.specs.Runs.{runCount};
+ghost use Rattle.rules.specs.Check.{mayFollow, circleTest};
+use slots::choice::both;
+use slots::choice::one_if;
+use slots::runs::is_front;
+use slots::words::next;
+use slots::words::prev;
+
+// How many runs there are.
+pub fn run_count(links: &[u32], used: u32) -> u32
+    ensures { λ r. ⌜ r ≡ runCount (versionAt (now (links .entry)) used) used ⌝ }
+{
+    let mut count: u32 = 0;
+    let mut i: u32 = 0;
+    while i < used {
+        count += one_if(is_front(links, used, i));
+        i += 1;
+    }
+    count
+}
+
+// From slot x the chain may go on to slot y: a front, whose prev undoes the step.
+fn may_follow(links: &[u32], used: u32, x: u32, y: u32) -> bool
+    ensures { λ r. ⌜ r ≡ mayFollow (now (links .entry)) used x y ⌝ }
+{
+    let before = prev(links, used, y);
+    both(is_front(links, used, y), before == x)
+}
+
+// From slot 0 next comes back to 0 in as many steps as told and no sooner. No slot is looked for twice: the steps run out first.
+pub fn circle_closes(links: &[u32], used: u32, steps: u32) -> bool
+    ensures { λ r. ⌜ r ≡ circleTest (now (links .entry)) used steps 0 ⌝ }
+{
+    let mut left = steps;
+    let mut x: u32 = 0;
+    while 0 < left {
+        let y = next(links, used, x);
+        if !may_follow(links, used, x, y) {
+            return false;
+        }
+        left -= 1;
+        if y == 0 {
+            return left == 0;
+        }
+        x = y;
+    }
+    false
+}
