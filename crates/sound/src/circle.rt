@@ -30,7 +30,7 @@ fn may_follow(links: &[u32], used: u32, x: u32, y: u32) -> bool
     both(is_front(links, used, y), before == x)
 }
 
-// From slot 0 next comes back to 0 in as many steps as told and no sooner. No slot is looked for twice: the steps run out first.
+// From slot 0 next comes back to 0 in as many steps as told, and no sooner. A chain that never does runs out of steps.
 pub fn circle_closes(links: &[u32], used: u32, steps: u32) -> bool
     ensures { λ r. ⌜ r ≡ circleTest (now (links .entry)) used steps 0 ⌝ }
 {

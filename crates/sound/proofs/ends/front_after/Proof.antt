@@ -13,11 +13,11 @@ add-result c = search needs
 
 returns : tie.Need-returns
 unfolding vacantAt
-returns c = rw (sym (c .before .vacant .ensures) ∙ c .if1 .taken)
+returns c = simp (sym (c .before .vacant .ensures) ∙ c .if1 .taken)
 
 returns-2 : tie.Need-returns-2
 unfolding vacantAt
-returns-2 c = rw (sym (c .before .vacant .ensures) ∙ c .if1 .left)
+returns-2 c = simp (sym (c .before .vacant .ensures) ∙ c .if1 .left)
 
 pub front-after-spec : {M : Type 1} → statement M
 front-after-spec = tie.close (tie.spec vacant-requires add-result returns returns-2)

@@ -14,20 +14,13 @@ is-back-requires : tie.Need-is-back-requires
 is-back-requires c κs = search needs
 
 returns : tie.Need-returns
-returns c = rw (← c .before .is-back .ensures, not-true (c .before .is-back .result) (c .if1 .taken))
+returns c = simp (← c .before .is-back .ensures, not-true (c .before .is-back .result) (c .if1 .taken))
 
 both-requires : tie.Need-both-requires
 both-requires c κs = search needs
 
 returns-2 : tie.Need-returns-2
-returns-2 c =
-    rw (
-      c .both .ensures,
-      ← c .before .before .is-back .ensures,
-      not-false (c .before .before .is-back .result) (c .before .if1 .left),
-      c .before .before .before .other-end2 .ensures,
-      c .before .before .before .before .other-end .ensures,
-    )
+returns-2 c = simp (not-false (c .before .before .is-back .result) (c .before .if1 .left), ← c .before .before .is-back .ensures) (cc)
 
 pub meet-at-spec : {M : Type 1} → statement M
 meet-at-spec =
