@@ -6,6 +6,7 @@ pub mod Headers
 pub mod Shape
 pub mod Links
 pub mod Full
+pub mod Rebuild
 pub mod HopSteps
 pub mod RemoveSteps
 pub mod Outcomes

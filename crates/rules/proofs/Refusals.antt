@@ -1,10 +1,10 @@
--- What a chain of refusals tells where it gave no number. Assumes nothing.
+-- What a chain of refusals tells where it gave no number, and that a number once given stays. Assumes nothing.
 use Prim.Native.Nat.{ℕ, _<_}
 use mathlib.Core.Bool.{Bool, false}
 use mathlib.Core.Path.{_≡_, refl}
 use native.Mathlib.Omega.{arith}
 use lib.Dec.{eqb}
-use borrow.Author.Tests.{eqb-true, eqb-false}
+use borrow.Author.Tests.{ne-eqb, eqb-true, eqb-false}
 use Rattle.rules.specs.Choice.{pick}
 use Rattle.rules.specs.Refusals.{_▸_}
 use Rattle.rules.proofs.Choice.{by-test}
@@ -20,3 +20,8 @@ passed k t n p e =
     (λ _ _. (eqb-true k 0 z, refl)))
     (λ z f. absurd (eqb-false k 0 z f))
     e
+
+-- a number that there is stays
+pub stays : (k : ℕ) (t : Bool) (n : ℕ) → (k ≡ 0 → ⊥) → k ▸ (t, n) ≡ k
+unfolding _▸_
+stays k t n h = simp (ne-eqb k 0 h)

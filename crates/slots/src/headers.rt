@@ -1,7 +1,7 @@
 // The headers that calls hand back are made here and nowhere else.
 ghost use mathlib.Core.Path.{_≡_};
 ghost use Rattle.rules.specs.Words.{rise};
-ghost use Rattle.rules.specs.Headers.{fresh, oneLess};
+ghost use Rattle.rules.specs.Headers.{fresh, oneLess, rebuilt};
 use crate::choice::one_below;
 use rules::Header;
 
@@ -38,5 +38,15 @@ pub fn one_less(header: Header) -> Header
     Header {
         used: header.used,
         live: one_below(header.live),
+    }
+}
+
+// Used becomes n, live the odd count.
+pub fn rebuilt(n: u32, odds: u32) -> Header
+    ensures { λ r. ⌜ r ≡ rebuilt n odds ⌝ }
+{
+    Header {
+        used: n,
+        live: odds,
     }
 }

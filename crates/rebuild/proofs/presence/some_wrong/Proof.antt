@@ -1,0 +1,77 @@
+-- `rebuild::presence::some_wrong` meets its contract. Assumes nothing.
+use Rattle.rules.specs.Choice.{someBelow}
+use Rattle.rules.specs.Rebuild.{wrongByte}
+use Rattle.rules.proofs.Below.{some-next, some-found}
+use mathlib.Core.Bool.{false}
+use mathlib.Core.Path.{_≡_, refl, sym, _∙_}
+use Prim.Native.Nat.{_-_, _≤_}
+use native.Mathlib.Omega.{arith}
+use denote.Ref.{now}
+use borrow.Author.Needs.{needs}
+use Rattle.rebuild.proofs.presence.some_wrong.Statement.{statement}
+use Rattle.rebuild.proofs.presence.some_wrong.Tie as tie
+
+abbrev Inv-loop : tie.InvT-loop
+Inv-loop links presence n i₀ i = (i ≤ n) × (someBelow i (wrongByte links presence) ≡ false)
+
+abbrev μ-loop : tie.MeasureT-loop
+μ-loop links presence n i₀ i = n - i
+
+loop-holds : tie.Need-loop-holds Inv-loop μ-loop
+unfolding someBelow
+loop-holds c = (omega arith, refl)
+
+cast-wrong-byte : tie.Need-cast-wrong-byte Inv-loop μ-loop
+cast-wrong-byte c = search needs
+
+shared-slice-read-wrong-byte : tie.Need-shared-slice-read-wrong-byte Inv-loop μ-loop
+shared-slice-read-wrong-byte c = omega arith
+
+version-requires : tie.Need-version-requires Inv-loop μ-loop
+version-requires c κs = search needs
+
+wrong-byte-requires : tie.Need-wrong-byte-requires Inv-loop μ-loop
+wrong-byte-requires c κs = search needs
+
+-- the byte of slot i is judged as the rule does it
+judged : (c : tie.After-wrong-byte Inv-loop μ-loop) →
+    let a = c .before .before .before .before .before .before .before .args in
+    c .wrong-byte .result ≡ wrongByte (now (a .links)) (now (a .presence)) (c .before .before .before .before .loop .i)
+unfolding wrongByte
+judged c = cc
+
+returns : tie.Need-returns Inv-loop μ-loop
+returns c =
+    sym (some-found _ _ (c .before .before .before .before .before .loop .i) (c .before .before .before .before .loop-test .taken) (sym (judged (c .before)) ∙ c .if1 .taken))
+
+add-i : tie.Need-add-i Inv-loop μ-loop
+add-i c = omega arith
+
+loop-less : tie.Need-loop-less Inv-loop μ-loop
+loop-less c = omega arith
+
+loop-again : tie.Need-loop-again Inv-loop μ-loop
+loop-again c =
+    (omega arith, rw (some-next, c .before .before .before .before .before .loop .inv .1) (sym (judged (c .before)) ∙ c .if1 .left))
+
+returns-2 : tie.Need-returns-2 Inv-loop μ-loop
+returns-2 c =
+    let whole : c .before .loop .i ≡ c .before .before .before .before .args .n = omega arith in
+    sym (rw whole at (c .before .loop .inv .1))
+
+pub some-wrong-spec : {M : Type 1} → statement M
+some-wrong-spec =
+    tie.close
+    (tie.spec
+    Inv-loop
+    μ-loop
+    loop-holds
+    cast-wrong-byte
+    shared-slice-read-wrong-byte
+    version-requires
+    wrong-byte-requires
+    returns
+    add-i
+    loop-less
+    loop-again
+    returns-2)

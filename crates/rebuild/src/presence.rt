@@ -1,0 +1,56 @@
+// The number that rebuild is turned down with: what is lent, then the presence bytes beside the versions.
+ghost use mathlib.Core.Path.{_≡_};
+ghost use mathlib.Core.Bool.{not};
+ghost use Prim.Native.Nat.{_%_};
+ghost use lib.Dec.{ltb, eqb};
+ghost use lib.ListN.{length};
+ghost use Rattle.rules.specs.Choice.{either, someBelow};
+ghost use Rattle.rules.specs.Rebuild.{wrongByte, rebuildNumber};
+use refusals::lent_number;
+use refusals::or_if;
+use rules::LINK_WORDS;
+use rules::SHAPE;
+use rules::WRONG_PRESENCE;
+use rules::ZERO_OCCUPIED;
+use slots::words::version;
+
+// A presence byte that is not 0 or 1, or is not the lowest bit of its slot's version.
+fn wrong_byte(byte: u8, version: u32) -> bool
+    ensures { λ r. ⌜ r ≡ either (ltb 1 byte) (not (eqb byte (version % 2))) ⌝ }
+{
+    if 1 < byte {
+        true
+    } else {
+        byte as u32 != version % 2
+    }
+}
+
+// Some byte is wrong. n is how many there are.
+fn some_wrong(links: &[u32], presence: &[u8], n: u32) -> bool
+    requires { ⌜ n ≡ length (now presence) ⌝ }
+    ensures { λ r. ⌜ r ≡ someBelow n (wrongByte (now (links .entry)) (now (presence .entry))) ⌝ }
+{
+    let mut i = 0;
+    while i < n {
+        if wrong_byte(presence[i as usize], version(links, n, i)) {
+            return true;
+        }
+        i += 1;
+    }
+    false
+}
+
+// The tests of the bytes wait for those of their number, which then fits a word: no more bytes than slots are read.
+pub fn rebuild_number(links: &[u32], rows: &[u32], presence: &[u8]) -> u32
+    ensures { λ r. ⌜ r ≡ rebuildNumber (now (links .entry)) (now (rows .entry)) (now (presence .entry)) ⌝ }
+{
+    let number = lent_number(links.len(), rows.len());
+    let number = or_if(number, presence.len() == 0, SHAPE);
+    let number = or_if(number, links.len() / LINK_WORDS < presence.len(), SHAPE);
+    if number != 0 {
+        return number;
+    }
+    let n = presence.len() as u32;
+    let number = or_if(number, some_wrong(links, presence, n), WRONG_PRESENCE);
+    or_if(number, version(links, n, 0) % 2 == 1, ZERO_OCCUPIED)
+}
