@@ -7,9 +7,9 @@ mod relinking;
 ghost use mathlib.Core.Path.{_≡_};
 ghost use Rattle.rules.specs.Values.{numbered};
 ghost use Rattle.rules.specs.Rebuild.{rebuildRule};
-use clearing::clear_vacant_rows;
+pub use clearing::clear_vacant_rows;
 use presence::rebuild_number;
-use relinking::relink;
+pub use relinking::relink;
 use rules::Header;
 use rules::Numbered;
 
