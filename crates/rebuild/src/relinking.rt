@@ -1,6 +1,5 @@
 // Relinking: the versions and n give next, prev, other_end and the header. Each pass goes once over the slots below n.
 ghost use mathlib.Core.Path.{_≡_};
-ghost use Rattle.rules.specs.Words.{setNext, setPrev, setOtherEnd};
 ghost use Rattle.rules.specs.Rebuild.{unlinked, chainRun, chainSlot, chainSlots, closed, relinked};
 use rules::Header;
 use slots::headers::rebuilt;
@@ -10,19 +9,12 @@ use slots::runs::odd_count;
 use slots::words::set_next;
 use slots::words::set_other_end;
 use slots::words::set_prev;
+use slots::words::zero_links;
 
 // The front of the run at hand, and that of the last run chained.
 struct Fronts {
     front: u32,
     last: u32,
-}
-
-fn unlink_slot(links: &mut [u32], i: u32)
-    ensures { λ _. ⌜ now (links .exit) ≡ setOtherEnd (setPrev (setNext (now (links .entry)) i 0) i 0) i 0 ⌝ }
-{
-    set_next(links, i, 0);
-    set_prev(links, i, 0);
-    set_other_end(links, i, 0);
 }
 
 // Next, prev and other_end become zero in the slots below n.
@@ -31,7 +23,7 @@ fn unlink(links: &mut [u32], n: u32)
 {
     let mut i = 0;
     while i < n {
-        unlink_slot(links, i);
+        zero_links(links, i);
         i += 1;
     }
 }

@@ -5,7 +5,7 @@ use mathlib.Core.Bool.{Bool, not}
 use lib.ListN.{length, getD}
 use lib.Dec.{ltb, eqb}
 use Rattle.rules.specs.Choice.{pick, either, someBelow}
-use Rattle.rules.specs.Words.{lentOf, versionAt, setNext, setPrev, setOtherEnd, setRow, zeroRow, isOdd, vacantAt}
+use Rattle.rules.specs.Words.{lentOf, versionAt, setNext, setPrev, setOtherEnd, zeroLinks, setRow, zeroRow, isOdd, vacantAt}
 use Rattle.rules.specs.Headers.{rebuilt}
 use Rattle.rules.specs.Values.{Outcome, plain, done, unless}
 use Rattle.rules.specs.Refusals.{_▸_, shape, wrongPresence, zeroOccupied, lentNumber}
@@ -29,7 +29,7 @@ rebuildNumber l r bytes =
 -- next, prev and other_end become zero in the slots below n
 unfoldable pub unlinked : ℕ → List ℕ → List ℕ
 unlinked zero l = l
-unlinked (suc n) l = setOtherEnd (setPrev (setNext (unlinked n l) n 0) n 0) n 0
+unlinked (suc n) l = zeroLinks (unlinked n l) n
 
 -- the links while runs are chained: the front of the run at hand, and that of the last run chained
 pub record Chain : Type 0 where

@@ -69,9 +69,12 @@ setPrev l i x = setLink l i prevWord x
 abbrev pub setOtherEnd : List ℕ → ℕ → ℕ → List ℕ
 setOtherEnd l i x = setLink l i otherEndWord x
 
--- slot i gets a version and zero links
+-- slot i gets zero links; a version and zero links
+abbrev pub zeroLinks : List ℕ → ℕ → List ℕ
+zeroLinks l i = setOtherEnd (setPrev (setNext l i 0) i 0) i 0
+
 unfoldable pub newSlot : List ℕ → ℕ → ℕ → List ℕ
-newSlot l i v = setOtherEnd (setPrev (setNext (setVersion l i v) i 0) i 0) i 0
+newSlot l i v = zeroLinks (setVersion l i v) i
 
 -- row i is within the row table
 abbrev pub rowWithin : List ℕ → ℕ → Bool

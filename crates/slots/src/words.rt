@@ -1,6 +1,6 @@
 // The four link words of a slot, read and written.
 ghost use mathlib.Core.Path.{_≡_};
-ghost use Rattle.rules.specs.Words.{linkAt, setLink, versionAt, nextAt, prevAt, otherEndAt, setVersion, setNext, setPrev, setOtherEnd, newSlot, vacantAt, occupiedAt};
+ghost use Rattle.rules.specs.Words.{linkAt, setLink, versionAt, nextAt, prevAt, otherEndAt, setVersion, setNext, setPrev, setOtherEnd, zeroLinks, newSlot, vacantAt, occupiedAt};
 use crate::choice::both;
 use rules::LINK_WORDS;
 
@@ -82,14 +82,21 @@ pub fn set_other_end(links: &mut [u32], i: u32, x: u32)
     set_link(links, i, OTHER_END, x);
 }
 
+// Slot i gets zero links.
+pub fn zero_links(links: &mut [u32], i: u32)
+    ensures { λ _. ⌜ now (links .exit) ≡ zeroLinks (now (links .entry)) i ⌝ }
+{
+    set_next(links, i, 0);
+    set_prev(links, i, 0);
+    set_other_end(links, i, 0);
+}
+
 // Slot i gets a version and zero links.
 pub fn new_slot(links: &mut [u32], i: u32, version: u32)
     ensures { λ _. ⌜ now (links .exit) ≡ newSlot (now (links .entry)) i version ⌝ }
 {
     set_version(links, i, version);
-    set_next(links, i, 0);
-    set_prev(links, i, 0);
-    set_other_end(links, i, 0);
+    zero_links(links, i);
 }
 
 // Slot i is in use, and vacant.

@@ -19,8 +19,8 @@ loop-holds : tie.Need-loop-holds Inv-loop μ-loop
 unfolding unlinked
 loop-holds c = (omega arith, refl, refl)
 
-unlink-slot-requires : tie.Need-unlink-slot-requires Inv-loop μ-loop
-unlink-slot-requires c κs = search needs
+zero-links-requires : tie.Need-zero-links-requires Inv-loop μ-loop
+zero-links-requires c κs = search needs
 
 add-i : tie.Need-add-i Inv-loop μ-loop
 add-i c = omega arith
@@ -34,7 +34,7 @@ loop-again c =
     let v = c .before .before .before .before .before .loop in (
       omega arith,
       search needs,
-      rw (add-one, c .before .before .unlink-slot .ensures, v .inv .2),
+      rw (add-one, c .before .before .zero-links .ensures, v .inv .2),
     )
 
 same-length : tie.Need-same-length Inv-loop μ-loop
@@ -52,7 +52,7 @@ unlink-spec =
     Inv-loop
     μ-loop
     loop-holds
-    unlink-slot-requires
+    zero-links-requires
     add-i
     loop-less
     loop-again

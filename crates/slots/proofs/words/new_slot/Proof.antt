@@ -7,14 +7,8 @@ use Rattle.slots.proofs.words.new_slot.Tie as tie
 set-version-requires : tie.Need-set-version-requires
 set-version-requires c κs = search needs
 
-set-next-requires : tie.Need-set-next-requires
-set-next-requires c κs = search needs
-
-set-prev-requires : tie.Need-set-prev-requires
-set-prev-requires c κs = search needs
-
-set-other-end-requires : tie.Need-set-other-end-requires
-set-other-end-requires c κs = search needs
+zero-links-requires : tie.Need-zero-links-requires
+zero-links-requires c κs = search needs
 
 same-length : tie.Need-same-length
 same-length c = search needs
@@ -23,19 +17,11 @@ returns : tie.Need-returns
 unfolding newSlot
 returns c =
     rw (
-      c .before .before .set-other-end .ensures,
-      c .before .before .before .before .before .before .set-prev .ensures,
-      c .before .before .before .before .before .before .before .before .before .before .set-next .ensures,
-      c .before .before .before .before .before .before .before .before .before .before .before .before .before .before .set-version .ensures,
+      c .before .before .zero-links .ensures,
+      c .before .before .before .before .before .before .set-version .ensures,
     )
 
 pub new-slot-spec : {M : Type 1} → statement M
 new-slot-spec =
     tie.close
-    (tie.spec
-    set-version-requires
-    set-next-requires
-    set-prev-requires
-    set-other-end-requires
-    same-length
-    returns)
+    (tie.spec set-version-requires zero-links-requires same-length returns)

@@ -1,7 +1,7 @@
--- `rebuild::relinking::unlink_slot` meets its contract. Assumes nothing.
+-- `slots::words::zero_links` meets its contract. Assumes nothing.
 use borrow.Author.Needs.{needs}
-use Rattle.rebuild.proofs.relinking.unlink_slot.Statement.{statement}
-use Rattle.rebuild.proofs.relinking.unlink_slot.Tie as tie
+use Rattle.slots.proofs.words.zero_links.Statement.{statement}
+use Rattle.slots.proofs.words.zero_links.Tie as tie
 
 set-next-requires : tie.Need-set-next-requires
 set-next-requires c κs = search needs
@@ -23,7 +23,7 @@ returns c =
       c .before .before .before .before .before .before .before .before .before .before .set-next .ensures,
     )
 
-pub unlink-slot-spec : {M : Type 1} → statement M
-unlink-slot-spec =
+pub zero-links-spec : {M : Type 1} → statement M
+zero-links-spec =
     tie.close
     (tie.spec set-next-requires set-prev-requires set-other-end-requires same-length returns)
