@@ -28,8 +28,8 @@ use Rattle.rules.specs.declared.Key.{Key}
 use Rattle.rules.proofs.Choice.{by-pick}
 use Rattle.runs.specs.Machine.{Machine, liveOf, backOf, machineOf}
 use Rattle.runs.specs.Steps.{Step, stays, stepUnless, keyNumberOn, place, insertNumberOn, grownBy, filledBy, insertOn, removeOn, replaceOn, hopOn, drainOn}
-use Rattle.runs.specs.WholeTable.{clearOn, retainOn, soundOn, roomOn}
-use Rattle.runs.specs.Tables.{Shows, Simulates, NeverGives, Alike}
+use Rattle.runs.specs.WholeTable.{clearOn, retainOn, checkOn, roomOn}
+use Rattle.runs.specs.Tables.{Shows, Simulates, NeverGives, SameAnswer}
 use Rattle.runs.proofs.Segments.{seg-agree}
 use Rattle.runs.proofs.Sound.{linked, off-zero}
 use Rattle.runs.proofs.Shown.{header-is}
@@ -62,7 +62,7 @@ clear-simulates = clear-does
 pub retain-simulates : (bytes : List ℕ) → Simulates (λ l r hd. retainRule l r hd bytes) (λ m. retainOn m bytes)
 retain-simulates bytes l r hd m s = retain-does l r hd m s bytes
 
-pub check-simulates : Simulates checkRule soundOn
+pub check-simulates : Simulates checkRule checkOn
 check-simulates = check-does
 
 pub room-simulates : Simulates roomRule roomOn
@@ -70,7 +70,7 @@ room-simulates = room-does
 
 -- one machine: one answer, one machine after it
 pub one-answer : (call : List ℕ → List ℕ → Header → Outcome) (step : Machine → Step) → Simulates call step →
-    (l r l′ r′ : List ℕ) (hd hd′ : Header) (m : Machine) → Shows l r hd m → Shows l′ r′ hd′ m → Alike (call l r hd) (call l′ r′ hd′) (step m .machine)
+    (l r l′ r′ : List ℕ) (hd hd′ : Header) (m : Machine) → Shows l r hd m → Shows l′ r′ hd′ m → SameAnswer (call l r hd) (call l′ r′ hd′) (step m .machine)
 one-answer call step sim l r l′ r′ hd hd′ m s t =
     let d = sim l r hd m s in
     let e = sim l′ r′ hd′ m t in
@@ -167,7 +167,7 @@ retain-never-2 bytes =
     never _ (λ m. retainOn m bytes) (retain-simulates bytes) (λ m. unless-never m (sideNumber passes (length bytes) (m .used)) _ (side-never _ _) (λ e. omega arith))
 
 pub check-never-2 : NeverGives damaged checkRule
-check-never-2 = never _ soundOn check-simulates (λ m e. omega arith)
+check-never-2 = never _ checkOn check-simulates (λ m e. omega arith)
 
 pub room-never-2 : NeverGives damaged roomRule
 room-never-2 = never _ roomOn room-simulates (λ m e. omega arith)

@@ -12,14 +12,14 @@ use Rattle.rules.specs.Choice.{pick, times}
 use Rattle.rules.specs.Words.{vacantBy}
 use Rattle.rules.specs.Runs.{Front, Run, isFront, isBack, frontOf}
 use Rattle.runs.specs.Points.{put}
-use Rattle.runs.specs.Rising.{risen, rising}
+use Rattle.runs.specs.Rising.{frontsBelow, rising}
 use Rattle.runs.proofs.Points.{alike-other, put-same, put-other, put2-last, put2-first, put2-other}
 use Rattle.runs.proofs.Segments.{Seg, seg-join, seg-last, seg-end}
 use Rattle.runs.proofs.Runs.{run-same}
 use Rattle.runs.proofs.Linked.{Linked}
 use Rattle.runs.proofs.Tests.{vacant-no}
 use Rattle.runs.proofs.RunTests.{no-choice, front-later, front-no, back-by, back-vacant, back-last, back-yes, front-of}
-use Rattle.runs.proofs.Rising.{risen-none, risen-zero, risen-on, risen-past, risen-once, risen-only, risen-below, risen-run, rising-fronts}
+use Rattle.runs.proofs.Rising.{rising-none, rising-zero, rising-on, rising-past, rising-once, rising-only, rising-below, rising-run, rising-fronts}
 
 -- the runs that end below slot k are those whose fronts are below this slot
 unfoldable pub edge : (ℕ → ℕ) → ℕ → ℕ → ℕ
@@ -29,7 +29,7 @@ edge v n k = pick (vacantBy v n k) (frontOf v n k) k
 -- fronts in rising order; other_end is right at their ends; and the run that slot k is in, if any, starts at the front in mind
 pub record Chained (v next prev other : ℕ → ℕ) (n k front last : ℕ) : Type 0 where
   pub here : vacantBy v n k ≡ true → pick (isFront v n k) k front ≡ frontOf v n k
-  pub seg : Seg next (put prev 0 last) 0 (risen v n (edge v n k)) 0
+  pub seg : Seg next (put prev 0 last) 0 (frontsBelow v n (edge v n k)) 0
   pub ends : (f b : ℕ) → Run v n f b → b < k → (other f ≡ b) × (other b ≡ f)
 
 module _ (v : ℕ → ℕ) (n k : ℕ) where
@@ -44,13 +44,13 @@ module _ (v : ℕ → ℕ) (n k : ℕ) where
       go false t = simp (front-later v n k, e, t)
 
   -- no run ends at slot k
-  no-more : isBack v n k ≡ false → risen v n (edge v n k) ≡ risen v n (edge v n (suc k))
+  no-more : isBack v n k ≡ false → frontsBelow v n (edge v n k) ≡ frontsBelow v n (edge v n (suc k))
   unfolding edge frontOf
   no-more e = go (vacantBy v n k) refl
     where
-      go : (t : Bool) → vacantBy v n k ≡ t → risen v n (edge v n k) ≡ risen v n (edge v n (suc k))
+      go : (t : Bool) → vacantBy v n k ≡ t → frontsBelow v n (edge v n k) ≡ frontsBelow v n (edge v n (suc k))
       go true t = simp (t, not-false (vacantBy v n (suc k)) (simp (back-by v n k, t) at e))
-      go false t = simp (t, no-choice (vacantBy v n (suc k)) (suc k)) (sym (risen-past v n k (front-no v n k t)))
+      go false t = simp (t, no-choice (vacantBy v n (suc k)) (suc k)) (sym (rising-past v n k (front-no v n k t)))
 
   -- a run ends there
   module _ (f : ℕ) (r : Run v n f k) where
@@ -58,19 +58,19 @@ module _ (v : ℕ → ℕ) (n k : ℕ) where
     unfolding edge
     before = simp (back-vacant v n r) (front-of v n r k (r .ordered) (omega arith))
 
-    after : risen v n (edge v n (suc k)) ≡ risen v n (suc f)
+    after : frontsBelow v n (edge v n (suc k)) ≡ frontsBelow v n (suc f)
     unfolding edge
-    after = simp (back-last v n r) (risen-run v n f k r k (r .ordered) (omega arith))
+    after = simp (back-last v n r) (rising-run v n f k r k (r .ordered) (omega arith))
 
 -- the run from f chained after the last one: the way round goes over it too. Slot 0's run is the first, and nothing is added
-chain-more : (v next prev : ℕ → ℕ) (n last f : ℕ) → Front v n f → Seg next (put prev 0 last) 0 (risen v n f) 0 →
-    Seg (put (put next last f) f 0) (put (put prev f last) 0 f) 0 (risen v n (suc f)) 0
+chain-more : (v next prev : ℕ → ℕ) (n last f : ℕ) → Front v n f → Seg next (put prev 0 last) 0 (frontsBelow v n f) 0 →
+    Seg (put (put next last f) f 0) (put (put prev f last) 0 f) 0 (frontsBelow v n (suc f)) 0
 chain-more v next prev n last zero r s =
-    rw (risen-zero v n) (put2-last next last 0 0 0 0 refl, put2-last prev 0 last 0 0 0 refl)
+    rw (rising-zero v n) (put2-last next last 0 0 0 0 refl, put2-last prev 0 last 0 0 0 refl)
 chain-more v next prev n last (suc m) r s =
-    rw (risen-on v n m r)
+    rw (rising-on v n m r)
     (seg-join next′ prev′ 0 way f [] 0
-    (seg-end next (put prev 0 last) next′ prev′ 0 way 0 f s (risen-once v n f)
+    (seg-end next (put prev 0 last) next′ prev′ 0 way 0 f s (rising-once v n f)
     (ap next′ end ∙ put2-first next last f f 0 last refl (before last (rw end at (seg-last next (put prev 0 last) 0 way 0 s))))
     (put2-first prev f last 0 f f refl (λ t. omega arith) ∙ sym end)
     (λ k h t. put2-other next last f f 0 k (λ q. t (q ∙ sym end)) (before k h))
@@ -81,7 +81,7 @@ chain-more v next prev n last (suc m) r s =
     f = suc m
 
     way : List ℕ
-    way = risen v n f
+    way = frontsBelow v n f
 
     next′ : ℕ → ℕ
     next′ = put (put next last f) f 0
@@ -93,10 +93,10 @@ chain-more v next prev n last (suc m) r s =
     end = put-same prev 0 last 0 refl
 
     before : (k : ℕ) → 1 ≤ times k (0 ∷ way) → k ≢ f
-    before k h t = omega (arith, risen-below v n f k (omega arith) h)
+    before k h t = omega (arith, rising-below v n f k (omega arith) h)
 
     not-first : (k : ℕ) → 1 ≤ times k way → k ≢ 0
-    not-first k h t = omega (arith, risen-only v n k f h .0)
+    not-first k h t = omega (arith, rising-only v n k f h .0)
 
 module _ (v next prev other : ℕ → ℕ) (n k front last : ℕ) (C : Chained v next prev other n k front last) where
   -- slot k is no back: its front, if it is one, is kept in mind
@@ -149,19 +149,19 @@ module _ (v next prev other : ℕ → ℕ) (n k front last : ℕ) (C : Chained v
   pub last-in-use : 0 < n → last < n
   last-in-use p = go (ℕ-discrete last 0)
     where
-      on : 1 ≤ times last (0 ∷ risen v n (edge v n k))
-      on = rw (put-same prev 0 last 0 refl) at (seg-last next (put prev 0 last) 0 (risen v n (edge v n k)) 0 (C .seg))
+      on : 1 ≤ times last (0 ∷ frontsBelow v n (edge v n k))
+      on = rw (put-same prev 0 last 0 refl) at (seg-last next (put prev 0 last) 0 (frontsBelow v n (edge v n k)) 0 (C .seg))
 
       go : Dec (last ≡ 0) → last < n
       go (yes e) = omega arith
-      go (no t) = risen-only v n last (edge v n k) (omega (arith, on, alike-other last 0 t)) .2 .below
+      go (no t) = rising-only v n last (edge v n k) (omega (arith, on, alike-other last 0 t)) .2 .below
 
 -- at the start, with next(0) zero, no run is chained
 pub none-yet : (v next prev other : ℕ → ℕ) (n : ℕ) → next 0 ≡ 0 → Chained v next prev other n 0 0 0
 unfolding edge frontOf
 none-yet v next prev other n e = record {
   here = λ _. no-choice (isFront v n 0) 0;
-  seg = simp (no-choice {A = ℕ} (vacantBy v n 0) 0, risen-none v n) (e, put-same prev 0 0 0 refl);
+  seg = simp (no-choice {A = ℕ} (vacantBy v n 0) 0, rising-none v n) (e, put-same prev 0 0 0 refl);
   ends = λ f b r h. absurd (omega arith);
 }
 

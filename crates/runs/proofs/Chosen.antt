@@ -21,28 +21,28 @@ use Rattle.rules.proofs.Choice.{by-test, both-true}
 use Rattle.rules.proofs.Refusals.{passed}
 use Rattle.runs.specs.Machine.{Machine, liveOf, machineOf}
 use Rattle.runs.specs.Steps.{stays, freed}
-use Rattle.runs.specs.WholeTable.{Struck, strikeIf, strike, drainsOn, clearOn, retainOn, soundOn}
+use Rattle.runs.specs.WholeTable.{Tally, removeIfOn, removeChosenOn, drainsOn, clearOn, retainOn, checkOn}
 use Rattle.runs.specs.Tables.{Shows, Does}
 use Rattle.runs.proofs.Shown.{entry-passes, side-alone, unless-does}
 use Rattle.runs.proofs.Checked.{sound-passed, sound-passes}
-use Rattle.runs.proofs.Drains.{drained-all}
+use Rattle.runs.proofs.DrainMachine.{drained-all}
 use Rattle.runs.proofs.Drained.{headed, live-is, drains-do}
 use Rattle.runs.proofs.Removed.{removal-does}
 
 module _ (chosen : ℕ → Bool) where
   -- one slot looked at
-  if-does : (o : Outcome) (s : Struck) → Does o (stays (s .machine) (counted (s .count))) → (i : ℕ) →
-      Does (removeIf chosen i o) (let t = strikeIf chosen i s in stays (t .machine) (counted (t .count)))
-  unfolding removeIf strikeIf occupiedAt
+  if-does : (o : Outcome) (s : Tally) → Does o (stays (s .machine) (counted (s .count))) → (i : ℕ) →
+      Does (removeIf chosen i o) (let t = removeIfOn chosen i s in stays (t .machine) (counted (t .count)))
+  unfolding removeIf removeIfOn occupiedAt
   if-does o s d i =
       let k = keyAt (o .links) (o .header .used) i in
       let gone = removeSlot (o .links) (o .rows) (o .header) k in
       let m = s .machine in
-      let taken : Struck = record { count = s .count + 1; machine = freed m i } in
+      let taken : Tally = record { count = s .count + 1; machine = freed m i } in
       let same : occupiedBy (versionAt (o .links) (o .header .used)) (o .header .used) i ≡ occupiedBy (m .versions) (m .used) i =
       ap (λ (x : Machine). occupiedBy (x .versions) (x .used) i) (d .shows .same) in
       subst (λ (t : Bool). Does (pick (both t (chosen i)) (plain (counted (o .answer .count + 1)) (gone .header) (gone .links) (gone .rows)) o)
-      (let t = strikeIf chosen i s in stays (t .machine) (counted (t .count)))) (sym same)
+      (let t = removeIfOn chosen i s in stays (t .machine) (counted (t .count)))) (sym same)
       (by-test (λ (t : Bool). Does (pick t (plain (counted (o .answer .count + 1)) (gone .header) (gone .links) (gone .rows)) o)
       (stays (pick t taken s .machine) (counted (pick t taken s .count)))) (both (occupiedBy (m .versions) (m .used) i) (chosen i))
       (λ e.
@@ -51,20 +51,20 @@ module _ (chosen : ℕ → Bool) where
       (λ _. d))
 
   pub chosen-does : (l r : List ℕ) (hd : Header) (m : Machine) → Shows l r hd m → (n : ℕ) →
-      Does (removeChosen chosen n (plain (counted 0) hd l r)) (let t = strike chosen n m in stays (t .machine) (counted (t .count)))
-  unfolding removeChosen strike
+      Does (removeChosen chosen n (plain (counted 0) hd l r)) (let t = removeChosenOn chosen n m in stays (t .machine) (counted (t .count)))
+  unfolding removeChosen removeChosenOn
   chosen-does l r hd m s zero = record { answer = refl; row = refl; shows = s }
   chosen-does l r hd m s (suc n) =
-      if-does (removeChosen chosen n (plain (counted 0) hd l r)) (strike chosen n m) (chosen-does l r hd m s n) n
+      if-does (removeChosen chosen n (plain (counted 0) hd l r)) (removeChosenOn chosen n m) (chosen-does l r hd m s n) n
 
 module _ (l r : List ℕ) (hd : Header) (m : Machine) (s : Shows l r hd m) where
   whole-check : (n : ℕ) → soundNumber n l hd ≡ n
   whole-check n = sound-passes l hd n (s .sound)
 
-  pub check-does : Does (checkRule l r hd) (soundOn m)
+  pub check-does : Does (checkRule l r hd) (checkOn m)
   unfolding checkRule
   check-does =
-      unless-does l r hd m s _ 0 (whole-check _ ∙ entry-passes l r hd (s .shaped) (s .sound .zero-even .even)) _ (soundOn m)
+      unless-does l r hd m s _ 0 (whole-check _ ∙ entry-passes l r hd (s .shaped) (s .sound .zero-even .even)) _ (checkOn m)
       (λ _. record { answer = refl; row = refl; shows = s })
 
   -- clear, as the drain step repeated to the end, is every live slot removed in rising order
@@ -82,7 +82,7 @@ module _ (l r : List ℕ) (hd : Header) (m : Machine) (s : Shows l r hd m) where
   retain-does bytes =
       subst (λ (u : ℕ). Does (retainRule l r hd bytes)
       (let n = sideNumber passes (length bytes) u in
-      let t = strike (struckBy bytes) u m in pick (eqb n 0) (stays (t .machine) (counted (t .count))) (stays m (refused n))))
+      let t = removeChosenOn (struckBy bytes) u m in pick (eqb n 0) (stays (t .machine) (counted (t .count))) (stays m (refused n))))
       (ap (λ (x : Machine). x .used) (s .same))
       (unless-does l r hd m s _ (sideNumber passes (length bytes) (hd .used))
       (whole-check _ ∙ side-alone l r hd (s .shaped) (s .sound .zero-even .even) (length bytes) (hd .used)) _ _

@@ -23,8 +23,8 @@ use Rattle.runs.specs.Tables.{Shows, Does}
 use Rattle.runs.proofs.Tests.{occupied-yes}
 use Rattle.runs.proofs.Sound.{linked}
 use Rattle.runs.proofs.Shown.{entry-passes, unless-does}
-use Rattle.runs.proofs.Struck.{freed-count}
-use Rattle.runs.proofs.Drains.{Headed, zero-run, none-lower, lowest-live}
+use Rattle.runs.proofs.ChosenMachine.{freed-count}
+use Rattle.runs.proofs.DrainMachine.{Headed, zero-run, none-lower, lowest-live}
 use Rattle.runs.proofs.Removed.{remove-at-does}
 
 -- a table that is a machine has slot 0 in use, and vacant

@@ -22,7 +22,7 @@ use Rattle.runs.proofs.Runs.{down}
 use Rattle.runs.proofs.Fronts.{Fronts, fronts-once}
 use Rattle.runs.proofs.Backs.{run-from}
 use Rattle.runs.proofs.Sound.{linked}
-use Rattle.runs.proofs.Filling.{place-is}
+use Rattle.runs.proofs.InsertWords.{place-is}
 use Rattle.runs.proofs.Inserted.{insert-does}
 
 module _ (v : ℕ → ℕ) (u : ℕ) (l : List ℕ) (i : Fronts v u l) where
@@ -85,14 +85,14 @@ module _ (l r : List ℕ) (hd : Header) (m : Machine) (s : Shows l r hd m) (side
   place-zero : NoneVacant → place m ≡ 0
   place-zero h = ap place (sym (s .same)) ∙ all-occupied (versionAt l (hd .used)) (hd .used) (s .sound .circle .after) fronts-are h
 
-  pub full-where : length side ≡ rowWords → hd .used ≡ lentOf l → NoneVacant → insertRule l r hd side .answer ≡ refused full
+  pub full-if : length side ≡ rowWords → hd .used ≡ lentOf l → NoneVacant → insertRule l r hd side .answer ≡ refused full
   unfolding insertOn insertNumberOn sideNumber _▸_
-  full-where whole e h =
+  full-if whole e h =
       let u : m .used ≡ m .lent = ap (λ (x : Machine). x .used) (sym (s .same)) ∙ e ∙ ap (λ (x : Machine). x .lent) (s .same) in
       insert-does l r hd m s side .answer ∙ simp (eq-eqb _ _ whole, eq-eqb _ _ (place-zero h), eq-eqb _ _ u)
 
-  pub full-there : insertRule l r hd side .answer ≡ refused full → (hd .used ≡ lentOf l) × NoneVacant
-  full-there e =
+  pub full-only-if : insertRule l r hd side .answer ≡ refused full → (hd .used ≡ lentOf l) × NoneVacant
+  full-only-if e =
       let f = full-only l r hd side e in
       let L = linked l hd (s .sound) in
       let b : backOf (versionAt l (hd .used)) (hd .used) (first (s .sound .circle .after)) ≡ 0 =

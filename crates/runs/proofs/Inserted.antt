@@ -31,7 +31,7 @@ use Rattle.runs.proofs.Tests.{both-if}
 use Rattle.runs.proofs.Followed.{insert-h, insert-b, insert-before, insert-n, insert-n-not-h, insert-room}
 use Rattle.runs.proofs.Sound.{LinkedTable, linked}
 use Rattle.runs.proofs.Shown.{skipped, side-alone, still-shaped, shows, unless-does}
-use Rattle.runs.proofs.Filling.{place-is, grown-linked, filled-linked, shortened-versions, shortened-length}
+use Rattle.runs.proofs.InsertWords.{place-is, grown-linked, filled-linked, shortened-versions, shortened-length}
 use Rattle.runs.proofs.Removed.{not-astray}
 
 module _ (l : List ℕ) (hd : Header) (after : List ℕ) (L : LinkedTable l (hd .used) after)

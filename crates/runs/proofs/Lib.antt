@@ -33,20 +33,20 @@ pub mod Relinked
 pub mod ClearedRows
 -- Each call of the rules is the machine's step: what all calls share, then insert and remove (the words they write, then the call),
 -- the hop step and walks, the drain step, the removal of the chosen, retain's way to it, the beginnings, the rest.
-pub mod Chains
+pub mod ChainEdits
 pub mod Followed
 pub mod Shown
-pub mod Freeing
+pub mod RemoveWords
 pub mod Removed
-pub mod Filling
+pub mod InsertWords
 pub mod Inserted
 pub mod Hopped
 pub mod Walked
-pub mod Struck
-pub mod Drains
+pub mod ChosenMachine
+pub mod DrainMachine
 pub mod Drained
 pub mod Chosen
-pub mod Leaves
+pub mod ChosenLeaves
 pub mod Scanned
 pub mod Begun
 pub mod Accessed

@@ -31,9 +31,9 @@ use Rattle.runs.proofs.Words.{holds-below, version-put, length-link}
 use Rattle.runs.proofs.Rows.{row-below, row-put, length-row}
 use Rattle.runs.proofs.Counts.{odd-change, odd-some}
 use Rattle.runs.proofs.Followed.{IsVacant, remove-t, remove-right-links, remove-left-link}
-use Rattle.runs.proofs.Freeing.{near, near-is, freed-linked, freed-versions, freed-length}
+use Rattle.runs.proofs.RemoveWords.{near, near-is, freed-linked, freed-versions, freed-length}
 use Rattle.runs.proofs.Sound.{LinkedTable, linked}
-use Rattle.runs.proofs.Struck.{rise-even}
+use Rattle.runs.proofs.ChosenMachine.{rise-even}
 use Rattle.runs.proofs.Shown.{skipped, entry-passes, still-shaped, shows, unless-does}
 
 -- a link to a vacant slot in use does not go astray

@@ -21,7 +21,7 @@ use Rattle.rules.proofs.Shape.{shaped}
 use Rattle.rules.proofs.RemoveSteps.{removed-slot}
 use Rattle.runs.specs.Machine.{Machine, liveOf, backOf, machineOf}
 use Rattle.runs.specs.Steps.{lowest}
-use Rattle.runs.specs.WholeTable.{strike}
+use Rattle.runs.specs.WholeTable.{removeChosenOn}
 use Rattle.runs.specs.Tables.{Shows}
 use Rattle.runs.specs.Scans.{Scan, nextSlot, strikeOut, scanOne, scanStart, scans}
 use Rattle.runs.proofs.Counts.{odd-more, odd-none, odd-rises}
@@ -29,8 +29,8 @@ use Rattle.runs.proofs.Runs.{par, after-run}
 use Rattle.runs.proofs.Tests.{vacant-is, vacant-not, occupied-yes, occupied-no}
 use Rattle.runs.proofs.Backs.{run-from}
 use Rattle.runs.proofs.Sound.{LinkedTable, linked}
-use Rattle.runs.proofs.Struck.{left}
-use Rattle.runs.proofs.Drains.{Headed, zero-run, none-lower, lowest-live}
+use Rattle.runs.proofs.ChosenMachine.{left}
+use Rattle.runs.proofs.DrainMachine.{Headed, zero-run, none-lower, lowest-live}
 use Rattle.runs.proofs.Drained.{headed, live-is, lowest-is}
 use Rattle.runs.proofs.Checked.{sound-passed}
 use Rattle.runs.proofs.Chosen.{chosen-does, checked-shows}
@@ -46,7 +46,7 @@ module _ (chosen : ℕ → Bool) (l r : List ℕ) (hd : Header) (m : Machine) (s
   soFar k = removeChosen chosen k (plain (counted 0) hd l r)
 
   abbrev now : ℕ → Machine
-  now k = strike chosen k m .machine
+  now k = removeChosenOn chosen k m .machine
 
   shown : (k : ℕ) → Shows (soFar k .links) (soFar k .rows) (soFar k .header) (now k)
   shown k = chosen-does chosen l r hd m s k .shows

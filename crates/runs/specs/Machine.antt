@@ -27,12 +27,12 @@ abbrev pub keyOf : Machine → ℕ → Key
 keyOf m i = record { index = i; version = m .versions i }
 
 -- the back of the run that slot k is in, looked for at most d slots up
-unfoldable pub scan : (ℕ → ℕ) → ℕ → ℕ → ℕ → ℕ
-scan v used zero k = k
-scan v used (suc d) k = pick (vacantBy v used (suc k)) (scan v used d (suc k)) k
+unfoldable pub backWithin : (ℕ → ℕ) → ℕ → ℕ → ℕ → ℕ
+backWithin v used zero k = k
+backWithin v used (suc d) k = pick (vacantBy v used (suc k)) (backWithin v used d (suc k)) k
 
 abbrev pub backOf : (ℕ → ℕ) → ℕ → ℕ → ℕ
-backOf v used f = scan v used (used - f) f
+backOf v used f = backWithin v used (used - f) f
 
 -- the first of the chain, 0 where slot 0's run is the only one; the chain without it
 abbrev pub first : List ℕ → ℕ

@@ -6,9 +6,9 @@ use Rattle.rules.specs.Choice.{pick, both}
 use Rattle.rules.specs.Runs.{isFront}
 
 -- those below slot k; all of them
-unfoldable pub risen : (ℕ → ℕ) → ℕ → ℕ → List ℕ
-risen v used zero = []
-risen v used (suc k) = pick (both (isFront v used k) (ltb 0 k)) (risen v used k ++ k ∷ []) (risen v used k)
+unfoldable pub frontsBelow : (ℕ → ℕ) → ℕ → ℕ → List ℕ
+frontsBelow v used zero = []
+frontsBelow v used (suc k) = pick (both (isFront v used k) (ltb 0 k)) (frontsBelow v used k ++ k ∷ []) (frontsBelow v used k)
 
 abbrev pub rising : (ℕ → ℕ) → ℕ → List ℕ
-rising v used = risen v used used
+rising v used = frontsBelow v used used

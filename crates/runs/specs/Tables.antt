@@ -30,7 +30,7 @@ abbrev pub NeverGives : ℕ → (List ℕ → List ℕ → Header → Outcome) �
 NeverGives n call = (l r : List ℕ) (hd : Header) → shapeNumber l r hd ≡ 0 → Sound l hd → call l r hd .answer .number ≡ n → ⊥
 
 -- two outcomes that answer alike and leave one machine
-pub record Alike (o o′ : Outcome) (m : Machine) : Type 0 where
+pub record SameAnswer (o o′ : Outcome) (m : Machine) : Type 0 where
   pub answer : o .answer ≡ o′ .answer
   pub row : o .row ≡ o′ .row
   pub header : o .header ≡ o′ .header

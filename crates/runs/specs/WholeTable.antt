@@ -18,34 +18,34 @@ drainsOn zero m = m
 drainsOn (suc n) m = drainsOn n (drainOn m .machine)
 
 -- the chosen among the slots below n go, in rising order; how many went
-pub record Struck : Type 0 where
+pub record Tally : Type 0 where
   pub count : ℕ
   pub machine : Machine
 
-unfoldable pub strikeIf : (ℕ → Bool) → ℕ → Struck → Struck
-strikeIf chosen i s =
+unfoldable pub removeIfOn : (ℕ → Bool) → ℕ → Tally → Tally
+removeIfOn chosen i s =
     pick (both (occupiedBy (s .machine .versions) (s .machine .used) i) (chosen i))
     (record { count = s .count + 1; machine = freed (s .machine) i }) s
 
-unfoldable pub strike : (ℕ → Bool) → ℕ → Machine → Struck
-strike chosen zero m = record { count = 0; machine = m }
-strike chosen (suc n) m = strikeIf chosen n (strike chosen n m)
+unfoldable pub removeChosenOn : (ℕ → Bool) → ℕ → Machine → Tally
+removeChosenOn chosen zero m = record { count = 0; machine = m }
+removeChosenOn chosen (suc n) m = removeIfOn chosen n (removeChosenOn chosen n m)
 
 -- clear, retain
 abbrev pub all : ℕ → Bool
 all i = true
 
 unfoldable pub clearOn : Machine → Step
-clearOn m = stays (strike all (m .used) m .machine) done
+clearOn m = stays (removeChosenOn all (m .used) m .machine) done
 
 unfoldable pub retainOn : Machine → List ℕ → Step
 retainOn m bytes =
     stepUnless m (sideNumber passes (length bytes) (m .used))
-    (let s = strike (struckBy bytes) (m .used) m in stays (s .machine) (counted (s .count)))
+    (let s = removeChosenOn (struckBy bytes) (m .used) m in stays (s .machine) (counted (s .count)))
 
 -- the soundness check, room
-abbrev pub soundOn : Machine → Step
-soundOn m = stays m done
+abbrev pub checkOn : Machine → Step
+checkOn m = stays m done
 
 abbrev pub roomOn : Machine → Step
 roomOn m = stays m (counted (m .lent - liveOf m))

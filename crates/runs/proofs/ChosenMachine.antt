@@ -13,7 +13,7 @@ use Rattle.rules.proofs.Choice.{by-test, both-true}
 use Rattle.runs.specs.Points.{put}
 use Rattle.runs.specs.Machine.{Machine, liveOf}
 use Rattle.runs.specs.Steps.{freed}
-use Rattle.runs.specs.WholeTable.{Struck, strikeIf, strike}
+use Rattle.runs.specs.WholeTable.{Tally, removeIfOn, removeChosenOn}
 use Rattle.runs.proofs.Points.{put-same, put-other}
 use Rattle.runs.proofs.Counts.{odd-change}
 use Rattle.runs.proofs.Tests.{occupied-is}
@@ -41,7 +41,7 @@ module _ (chosen : ℕ → Bool) (m : Machine) where
   goes i = both (occupiedBy (m .versions) (m .used) i) (chosen i)
 
   -- what is left once the slots below n have been looked at
-  pub record Left (n : ℕ) (s : Struck) : Type 0 where
+  pub record Left (n : ℕ) (s : Tally) : Type 0 where
     pub versions : (i : ℕ) → s .machine .versions i ≡ pick (both (ltb i n) (goes i)) (rise (m .versions i)) (m .versions i)
     pub rows : (i : ℕ) → s .machine .rows i ≡ pick (both (ltb i n) (goes i)) zeroRow (m .rows i)
     pub used : s .machine .used ≡ m .used
@@ -65,7 +65,7 @@ module _ (chosen : ℕ → Bool) (m : Machine) where
   at-slot : (i n : ℕ) → i ≡ n → goes i ≡ goes n
   at-slot i n e = ap goes e
 
-  left-gone : (n : ℕ) (s : Struck) → Left n s → goes n ≡ true → Left (suc n) (record { count = s .count + 1; machine = freed (s .machine) n })
+  left-gone : (n : ℕ) (s : Tally) → Left n s → goes n ≡ true → Left (suc n) (record { count = s .count + 1; machine = freed (s .machine) n })
   unfolding freed
   left-gone n s k e =
       record {
@@ -96,7 +96,7 @@ module _ (chosen : ℕ → Bool) (m : Machine) where
           put-same (s .machine .rows) n zeroRow i t ∙ sym (looked-at n i zeroRow (m .rows i) t ∙ simp (at-slot i n t ∙ e))
       row i (no t) = put-other (s .machine .rows) n zeroRow i t ∙ k .rows i ∙ sym (no-other n i zeroRow (m .rows i) t)
 
-  left-kept : (n : ℕ) (s : Struck) → Left n s → goes n ≡ false → Left (suc n) s
+  left-kept : (n : ℕ) (s : Tally) → Left n s → goes n ≡ false → Left (suc n) s
   left-kept n s k e =
       record {
         versions = λ i. k .versions i ∙ same i (rise (m .versions i)) (m .versions i) (ℕ-discrete i n);
@@ -110,8 +110,8 @@ module _ (chosen : ℕ → Bool) (m : Machine) where
       same i a b (yes t) = not-yet n i a b (omega arith) ∙ sym (looked-at n i a b t ∙ simp (at-slot i n t ∙ e))
       same i a b (no t) = sym (no-other n i a b t)
 
-  pub left : (n : ℕ) → Left n (strike chosen n m)
-  unfolding strike strikeIf
+  pub left : (n : ℕ) → Left n (removeChosenOn chosen n m)
+  unfolding removeChosenOn removeIfOn
   left zero =
       record {
         versions = λ i. sym (not-yet 0 i (rise (m .versions i)) (m .versions i) (omega arith));
@@ -122,14 +122,14 @@ module _ (chosen : ℕ → Bool) (m : Machine) where
       }
   left (suc n) = go (left n)
     where
-      go : Left n (strike chosen n m) → Left (suc n) (strike chosen (suc n) m)
+      go : Left n (removeChosenOn chosen n m) → Left (suc n) (removeChosenOn chosen (suc n) m)
       go k =
-          let s = strike chosen n m in
+          let s = removeChosenOn chosen n m in
           subst (λ (t : Bool). Left (suc n) (pick t (record { count = s .count + 1; machine = freed (s .machine) n }) s)) (sym (test k))
           (by-test (λ (t : Bool). Left (suc n) (pick t (record { count = s .count + 1; machine = freed (s .machine) n }) s)) (goes n)
           (left-gone n s k) (left-kept n s k))
         where
-          test : Left n (strike chosen n m) → both (occupiedBy (strike chosen n m .machine .versions) (strike chosen n m .machine .used) n) (chosen n) ≡ goes n
+          test : Left n (removeChosenOn chosen n m) → both (occupiedBy (removeChosenOn chosen n m .machine .versions) (removeChosenOn chosen n m .machine .used) n) (chosen n) ≡ goes n
           test k =
-              ap (λ (x : ℕ). both (both (ltb n (strike chosen n m .machine .used)) (isOdd x)) (chosen n)) (k .versions n ∙ not-yet n n (rise (m .versions n)) (m .versions n) (omega arith))
+              ap (λ (x : ℕ). both (both (ltb n (removeChosenOn chosen n m .machine .used)) (isOdd x)) (chosen n)) (k .versions n ∙ not-yet n n (rise (m .versions n)) (m .versions n) (omega arith))
               ∙ ap (λ (x : ℕ). both (both (ltb n x) (isOdd (m .versions n))) (chosen n)) (k .used)

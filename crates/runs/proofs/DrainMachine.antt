@@ -13,13 +13,13 @@ use Rattle.rules.proofs.Choice.{by-test}
 use Rattle.runs.specs.Points.{put}
 use Rattle.runs.specs.Machine.{Machine, liveOf, backOf}
 use Rattle.runs.specs.Steps.{freed, lowest, drainOn}
-use Rattle.runs.specs.WholeTable.{strikeIf, strike, all, drainsOn}
+use Rattle.runs.specs.WholeTable.{removeIfOn, removeChosenOn, all, drainsOn}
 use Rattle.runs.proofs.Points.{put-same, put-other}
 use Rattle.runs.proofs.Counts.{odd-some, odd-none}
 use Rattle.runs.proofs.Runs.{after-run}
 use Rattle.runs.proofs.Tests.{occupied-yes, occupied-no}
 use Rattle.runs.proofs.Backs.{run-from}
-use Rattle.runs.proofs.Struck.{rise-even, freed-count}
+use Rattle.runs.proofs.ChosenMachine.{rise-even, freed-count}
 
 -- slot 0 is in use, and vacant
 pub record Headed (m : Machine) : Type 0 where
@@ -55,25 +55,25 @@ unfolding freed
 freed-used m i = refl
 
 -- one slot looked at, the count left out
-abbrev strikeAt : (ℕ → Bool) → ℕ → Machine → Machine
-strikeAt chosen i m = pick (both (occupiedBy (m .versions) (m .used) i) (chosen i)) (freed m i) m
+abbrev removedAt : (ℕ → Bool) → ℕ → Machine → Machine
+removedAt chosen i m = pick (both (occupiedBy (m .versions) (m .used) i) (chosen i)) (freed m i) m
 
-strike-more : (chosen : ℕ → Bool) (n : ℕ) (m : Machine) → strike chosen (suc n) m .machine ≡ strikeAt chosen n (strike chosen n m .machine)
-unfolding strike strikeIf
-strike-more chosen n m =
-    let s = strike chosen n m in
+chosen-more : (chosen : ℕ → Bool) (n : ℕ) (m : Machine) → removeChosenOn chosen (suc n) m .machine ≡ removedAt chosen n (removeChosenOn chosen n m .machine)
+unfolding removeChosenOn removeIfOn
+chosen-more chosen n m =
+    let s = removeChosenOn chosen n m in
     by-test (λ (t : Bool). pick t (record { count = s .count + 1; machine = freed (s .machine) n }) s .machine ≡ pick t (freed (s .machine) n) (s .machine))
     (both (occupiedBy (s .machine .versions) (s .machine .used) n) (chosen n)) (λ _. refl) (λ _. refl)
 
-strike-start : (chosen : ℕ → Bool) (m : Machine) → strike chosen 0 m .machine ≡ m
-unfolding strike
-strike-start chosen m = refl
+chosen-start : (chosen : ℕ → Bool) (m : Machine) → removeChosenOn chosen 0 m .machine ≡ m
+unfolding removeChosenOn
+chosen-start chosen m = refl
 
 -- where none of the slots below n is live, none goes
-strike-vacant : (chosen : ℕ → Bool) (n : ℕ) (m : Machine) → ((i : ℕ) → i < n → m .versions i % 2 ≡ 0) → strike chosen n m .machine ≡ m
-strike-vacant chosen zero m h = strike-start chosen m
-strike-vacant chosen (suc n) m h =
-    strike-more chosen n m ∙ ap (strikeAt chosen n) (strike-vacant chosen n m (λ i l. h i (omega arith)))
+chosen-vacant : (chosen : ℕ → Bool) (n : ℕ) (m : Machine) → ((i : ℕ) → i < n → m .versions i % 2 ≡ 0) → removeChosenOn chosen n m .machine ≡ m
+chosen-vacant chosen zero m h = chosen-start chosen m
+chosen-vacant chosen (suc n) m h =
+    chosen-more chosen n m ∙ ap (removedAt chosen n) (chosen-vacant chosen n m (λ i l. h i (omega arith)))
     ∙ simp (occupied-no (m .versions) (m .used) n (λ _. h n (omega arith)))
 
 -- once the lowest live slot is gone, none is live as far as there
@@ -88,24 +88,24 @@ gone-too m z h i l = go (ℕ-discrete i (lowest m))
         ap (λ (x : ℕ). x % 2) (put-other (m .versions) (lowest m) (rise (m .versions (lowest m))) i t) ∙ none-lower m z i (omega arith)
 
 -- the lowest live slot goes first
-strike-first : (m : Machine) → Headed m → 1 ≤ liveOf m → (d n : ℕ) → n ≡ suc (lowest m) + d → strike all n m .machine ≡ strike all n (freed m (lowest m)) .machine
-strike-first m z h zero n e =
+lowest-first : (m : Machine) → Headed m → 1 ≤ liveOf m → (d n : ℕ) → n ≡ suc (lowest m) + d → removeChosenOn all n m .machine ≡ removeChosenOn all n (freed m (lowest m)) .machine
+lowest-first m z h zero n e =
     let f : n ≡ suc (lowest m) = omega arith in
     let w = lowest-live m z h in
-    let taken : strikeAt all (lowest m) m ≡ freed m (lowest m) = simp (occupied-yes (m .versions) (m .used) (lowest m) (w .0) (w .1)) in
-    subst (λ (k : ℕ). strike all k m .machine ≡ strike all k (freed m (lowest m)) .machine) (sym f)
-    (strike-more all (lowest m) m
-    ∙ ap (strikeAt all (lowest m)) (strike-vacant all (lowest m) m (none-lower m z))
+    let taken : removedAt all (lowest m) m ≡ freed m (lowest m) = simp (occupied-yes (m .versions) (m .used) (lowest m) (w .0) (w .1)) in
+    subst (λ (k : ℕ). removeChosenOn all k m .machine ≡ removeChosenOn all k (freed m (lowest m)) .machine) (sym f)
+    (chosen-more all (lowest m) m
+    ∙ ap (removedAt all (lowest m)) (chosen-vacant all (lowest m) m (none-lower m z))
     ∙ taken
-    ∙ sym (strike-vacant all (suc (lowest m)) (freed m (lowest m)) (gone-too m z h)))
-strike-first m z h (suc d) zero e = absurd (omega arith)
-strike-first m z h (suc d) (suc n) e =
-    strike-more all n m ∙ ap (strikeAt all n) (strike-first m z h d n (omega arith)) ∙ sym (strike-more all n (freed m (lowest m)))
+    ∙ sym (chosen-vacant all (suc (lowest m)) (freed m (lowest m)) (gone-too m z h)))
+lowest-first m z h (suc d) zero e = absurd (omega arith)
+lowest-first m z h (suc d) (suc n) e =
+    chosen-more all n m ∙ ap (removedAt all n) (lowest-first m z h d n (omega arith)) ∙ sym (chosen-more all n (freed m (lowest m)))
 
 -- to the end: every live slot, in rising order
-pub drained-all : (n : ℕ) (m : Machine) → Headed m → liveOf m ≡ n → drainsOn n m ≡ strike all (m .used) m .machine
+pub drained-all : (n : ℕ) (m : Machine) → Headed m → liveOf m ≡ n → drainsOn n m ≡ removeChosenOn all (m .used) m .machine
 unfolding drainsOn drainOn
-drained-all zero m z e = sym (strike-vacant all (m .used) m (λ i l. even i l (ℕ-discrete (m .versions i % 2) 0)))
+drained-all zero m z e = sym (chosen-vacant all (m .used) m (λ i l. even i l (ℕ-discrete (m .versions i % 2) 0)))
   where
     even : (i : ℕ) → i < m .used → Dec (m .versions i % 2 ≡ 0) → m .versions i % 2 ≡ 0
     even i l (yes q) = q
@@ -115,5 +115,5 @@ drained-all (suc n) m z e =
     let one = freed-count m (lowest m) (occupied-yes (m .versions) (m .used) (lowest m) (w .0) (w .1)) in
     simp (ne-eqb (liveOf m) 0 (λ t. omega arith))
     (drained-all n (freed m (lowest m)) (freed-headed m z (lowest m) (λ t. omega arith)) (omega arith)
-    ∙ ap (λ (k : ℕ). strike all k (freed m (lowest m)) .machine) (freed-used m (lowest m))
-    ∙ sym (strike-first m z (omega arith) (m .used - suc (lowest m)) (m .used) (omega (arith, w .0))))
+    ∙ ap (λ (k : ℕ). removeChosenOn all k (freed m (lowest m)) .machine) (freed-used m (lowest m))
+    ∙ sym (lowest-first m z (omega arith) (m .used - suc (lowest m)) (m .used) (omega (arith, w .0))))

@@ -18,11 +18,11 @@ use Rattle.rules.specs.Retain.{removeChosen, struckBy, retainRule}
 use Rattle.rules.specs.declared.Header.{Header}
 use Rattle.runs.specs.Machine.{Machine, liveOf}
 use Rattle.runs.specs.Steps.{Step, stays}
-use Rattle.runs.specs.WholeTable.{strike, all, retainOn, clearOn}
+use Rattle.runs.specs.WholeTable.{removeChosenOn, all, retainOn, clearOn}
 use Rattle.runs.specs.Tables.{Shows}
 use Rattle.runs.proofs.Counts.{odd-none}
 use Rattle.runs.proofs.Tests.{occupied-no}
-use Rattle.runs.proofs.Struck.{goes, left, rise-even}
+use Rattle.runs.proofs.ChosenMachine.{goes, left, rise-even}
 use Rattle.runs.proofs.Drained.{live-is}
 use Rattle.runs.proofs.Chosen.{chosen-does, clear-does, retain-does}
 
@@ -35,7 +35,7 @@ module _ (l r : List ℕ) (hd : Header) (m : Machine) (s : Shows l r hd m) where
     abbrev o : Outcome
     o = removeChosen chosen n (plain (counted 0) hd l r)
 
-    shown : Shows (o .links) (o .rows) (o .header) (strike chosen n m .machine)
+    shown : Shows (o .links) (o .rows) (o .header) (removeChosenOn chosen n m .machine)
     shown = chosen-does chosen l r hd m s n .shows
 
     went-is : (i : ℕ) → both (ltb i n) (goes chosen m i) ≡ went chosen n i
@@ -61,7 +61,7 @@ module _ (l r : List ℕ) (hd : Header) (m : Machine) (s : Shows l r hd m) where
         omega (
           arith,
           ap (λ (v : Values). v .count) (chosen-does chosen l r hd m s n .answer),
-          live-is (o .links) (o .rows) (o .header) (strike chosen n m .machine) shown,
+          live-is (o .links) (o .rows) (o .header) (removeChosenOn chosen n m .machine) shown,
           left chosen m n .count,
           live-is l r hd m s,
         )
@@ -72,7 +72,7 @@ module _ (l r : List ℕ) (hd : Header) (m : Machine) (s : Shows l r hd m) where
   retain-count bytes e =
       let d = retain-does l r hd m s bytes in
       let u : length bytes ≡ m .used = e ∙ ap (λ (x : Machine). x .used) (s .same) in
-      let t : retainOn m bytes ≡ stays (strike (struckBy bytes) (m .used) m .machine) (counted (strike (struckBy bytes) (m .used) m .count)) = simp (eq-eqb _ _ u) in
+      let t : retainOn m bytes ≡ stays (removeChosenOn (struckBy bytes) (m .used) m .machine) (counted (removeChosenOn (struckBy bytes) (m .used) m .count)) = simp (eq-eqb _ _ u) in
       omega (
         arith,
         ap (λ (v : Values). v .count) (d .answer) ∙ ap (λ (x : Step). x .answer .count) t,
@@ -86,13 +86,13 @@ module _ (l r : List ℕ) (hd : Header) (m : Machine) (s : Shows l r hd m) where
   unfolding clearOn
   clear-empties =
       live-is _ _ _ _ (clear-does l r hd m s .shows)
-      ∙ odd-none (strike all (m .used) m .machine .versions) (strike all (m .used) m .machine .used) (λ i h. even i (omega (arith, left all m (m .used) .used)) (ℕ-discrete (m .versions i % 2) 1))
+      ∙ odd-none (removeChosenOn all (m .used) m .machine .versions) (removeChosenOn all (m .used) m .machine .used) (λ i h. even i (omega (arith, left all m (m .used) .used)) (ℕ-discrete (m .versions i % 2) 1))
     where
-      even : (i : ℕ) → i < m .used → Dec (m .versions i % 2 ≡ 1) → strike all (m .used) m .machine .versions i % 2 ≡ 0
+      even : (i : ℕ) → i < m .used → Dec (m .versions i % 2 ≡ 1) → removeChosenOn all (m .used) m .machine .versions i % 2 ≡ 0
       even i h (yes e) =
           ap (λ (x : ℕ). x % 2) (left all m (m .used) .versions i ∙ simp (lt-ltb i (m .used) h, eq-eqb (m .versions i % 2) 1 e)) ∙ rise-even (m .versions i) e
       even i h (no n) =
-          let kept : strike all (m .used) m .machine .versions i ≡ m .versions i =
+          let kept : removeChosenOn all (m .used) m .machine .versions i ≡ m .versions i =
           left all m (m .used) .versions i ∙ simp (occupied-no (m .versions) (m .used) i (λ _. omega arith)) (same (ltb i (m .used))) in
           ap (λ (x : ℕ). x % 2) kept ∙ omega arith
         where

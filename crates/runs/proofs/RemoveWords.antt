@@ -18,7 +18,7 @@ use Rattle.runs.proofs.Words.{holds, holds-below, words}
 use Rattle.runs.proofs.Runs.{par}
 use Rattle.runs.proofs.Fronts.{fronts-once}
 use Rattle.runs.proofs.Tests.{vacant-is, vacant-not}
-use Rattle.runs.proofs.Chains.{renamed-at, without-at}
+use Rattle.runs.proofs.ChainEdits.{renamed-at, without-at}
 use Rattle.runs.proofs.Joined.{apart, join-right, join-left, join-both}
 use Rattle.runs.proofs.Followed.{remove-t, remove-right-links, remove-left-link}
 use Rattle.runs.proofs.Sound.{LinkedTable}
