@@ -10,7 +10,7 @@ use borrow.Author.Tests.{eq-eqb, le-ltb, eqb-false, ltb-false}
 use Rattle.rules.specs.Choice.{times}
 use Rattle.rules.specs.Words.{linkWords, rowWords, lentOf, linkAt, versionAt, nextAt, prevAt, otherEndAt, newSlot, zeroRow, rowAt, setRow, vacantAt}
 use Rattle.rules.specs.Headers.{fresh, rebuilt}
-use Rattle.rules.specs.Values.{done, unless}
+use Rattle.rules.specs.Values.{unless}
 use Rattle.rules.specs.Refusals.{lentNumber}
 use Rattle.rules.specs.Start.{startRule}
 use Rattle.rules.specs.Rebuild.{rebuildNumber, relinked, clearedRows, rebuildRule}
@@ -20,7 +20,6 @@ use Rattle.rules.proofs.Refusals.{passed}
 use Rattle.rules.proofs.Shape.{Lent, lent}
 use Rattle.runs.specs.Points.{put}
 use Rattle.runs.specs.Rising.{rising}
-use Rattle.runs.specs.Steps.{stays}
 use Rattle.runs.specs.WholeTable.{startOn, rebuildOn}
 use Rattle.runs.specs.Tables.{Shows, Does}
 use Rattle.runs.proofs.Points.{alike-same, alike-other, put-same, put-other}
@@ -97,13 +96,13 @@ module _ (l r : List ℕ) (ok : lentNumber (length l) (length r) ≡ 0) where
       on k h (yes e) = record { below = omega arith; vacant = start-even k; starts = λ j q. absurd (omega arith) }
       on k h (no n) = absurd (omega (arith, alike-other k 0 n))
 
-  start-shows : Shows l′ r′ fresh (startOn (lentOf l))
+  start-shows : Shows l′ r′ fresh (startOn (lentOf l) .machine)
   start-shows =
       subst (Shows l′ r′ fresh) (cc (start-versions, start-rows, length-slot l 0 0))
       (shows l′ r′ fresh [] (fits-shape l′ r′ fresh (same-lent l r l′ r′ ok (length-slot l 0 0) (length-row r 0 zeroRow)) (omega arith) (omega (arith, t .some, length-slot l 0 0)) (omega arith))
       start-linked (sym (odd-none (versionAt l′ 1) 1 (λ k _. start-even k))))
 
-pub start-does : (l r : List ℕ) (hd : Header) → lentNumber (length l) (length r) ≡ 0 → Does (startRule l r hd) (stays (startOn (lentOf l)) done)
+pub start-does : (l r : List ℕ) (hd : Header) → lentNumber (length l) (length r) ≡ 0 → Does (startRule l r hd) (startOn (lentOf l))
 unfolding startRule unless
 start-does l r hd e = simp (eq-eqb _ 0 e) (record { answer = refl; row = refl; shows = start-shows l r e })
 
@@ -135,7 +134,7 @@ module _ (l r bytes : List ℕ) (e : rebuildNumber l r bytes ≡ 0) where
       }
 
   rebuild-shows : Shows (relinked l n .links) (clearedRows l n n r) (relinked l n .header)
-      (rebuildOn (versionAt l n) (rowAt r n) n (rising (versionAt l n) n) (lentOf l))
+      (rebuildOn (versionAt l n) (rowAt r n) n (lentOf l) .machine)
   unfolding relinked vacantAt
   rebuild-shows =
       subst (Shows (relinked l n .links) (clearedRows l n n r) (rebuilt n (oddCount (versionAt l n) n)))
@@ -157,6 +156,6 @@ module _ (l r bytes : List ℕ) (e : rebuildNumber l r bytes ≡ 0) where
       row-room = let t = lent (length l) (length r) (tested .may-be-lent) in omega (arith, tested .within, t .row-words)
 
   pub rebuild-does : (hd : Header) → Does (rebuildRule l r hd bytes)
-      (stays (rebuildOn (versionAt l n) (rowAt r n) n (rising (versionAt l n) n) (lentOf l)) done)
+      (rebuildOn (versionAt l n) (rowAt r n) n (lentOf l))
   unfolding rebuildRule unless
   rebuild-does hd = simp (eq-eqb _ 0 e) (record { answer = refl; row = refl; shows = rebuild-shows })

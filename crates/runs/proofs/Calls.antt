@@ -27,7 +27,7 @@ use Rattle.rules.specs.declared.Header.{Header}
 use Rattle.rules.specs.declared.Key.{Key}
 use Rattle.rules.proofs.Choice.{by-pick}
 use Rattle.runs.specs.Machine.{Machine, liveOf, backOf, machineOf}
-use Rattle.runs.specs.Steps.{Step, stays, stepUnless, keyNumberOn, place, insertNumberOn, grownBy, filledBy, insertOn, removeOn, replaceOn, hopOn, drainOn}
+use Rattle.runs.specs.Steps.{Step, stays, stepUnless, keyNumberOn, place, insertNumberOn, grownBy, filledBy, insertOn, removeOn, replaceOn, hopAnswerOn, hopOn, drainOn}
 use Rattle.runs.specs.WholeTable.{clearOn, retainOn, checkOn, roomOn}
 use Rattle.runs.specs.Tables.{Shows, Simulates, NeverGives, SameAnswer}
 use Rattle.runs.proofs.Segments.{seg-agree}
@@ -50,7 +50,7 @@ remove-simulates k l r hd m s = remove-does l r hd m s k
 pub replace-simulates : (k : Key) (side : List ℕ) → Simulates (λ l r hd. replaceRule l r hd k side) (λ m. replaceOn m k side)
 replace-simulates k side l r hd m s = replace-does l r hd m s k side
 
-pub hop-simulates : (c : ℕ) → Simulates (λ l r hd. hopRule l r hd c) (λ m. stays m (hopOn m c))
+pub hop-simulates : (c : ℕ) → Simulates (λ l r hd. hopRule l r hd c) (λ m. hopOn m c)
 hop-simulates c l r hd m s = hop-does l r hd m s c
 
 pub drain-simulates : Simulates drainRule drainOn
@@ -140,9 +140,9 @@ replace-never-2 k side =
     unless-never m (keyNumberOn (sideNumber passes (length side) rowWords) m k) _ (key-never _ m k (side-never _ _)) (λ e. omega arith))
 
 pub hop-never-2 : (c : ℕ) → NeverGives damaged (λ l r hd. hopRule l r hd c)
-unfolding hopOn
+unfolding hopAnswerOn
 hop-never-2 c =
-    never _ (λ m. stays m (hopOn m c)) (hop-simulates c) (λ m.
+    never _ (λ m. hopOn m c) (hop-simulates c) (λ m.
     by-pick Fine (leb (m .used) c) _ _ (λ _ e. omega arith)
     (λ _. by-pick Fine (occupiedBy (m .versions) (m .used) c) _ _ (λ _ e. omega arith)
     (λ _. by-pick Fine (pastFront (m .versions) (m .used) c) _ _ (λ _ e. omega arith)

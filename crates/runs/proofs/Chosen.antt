@@ -20,7 +20,7 @@ use Rattle.rules.specs.declared.Header.{Header}
 use Rattle.rules.proofs.Choice.{by-test, both-true}
 use Rattle.rules.proofs.Refusals.{passed}
 use Rattle.runs.specs.Machine.{Machine, liveOf, machineOf}
-use Rattle.runs.specs.Steps.{stays, freed}
+use Rattle.runs.specs.Steps.{stays, freedOn}
 use Rattle.runs.specs.WholeTable.{Tally, removeIfOn, removeChosenOn, drainsOn, clearOn, retainOn, checkOn}
 use Rattle.runs.specs.Tables.{Shows, Does}
 use Rattle.runs.proofs.Shown.{entry-passes, side-alone, unless-does}
@@ -38,7 +38,7 @@ module _ (chosen : ℕ → Bool) where
       let k = keyAt (o .links) (o .header .used) i in
       let gone = removeSlot (o .links) (o .rows) (o .header) k in
       let m = s .machine in
-      let taken : Tally = record { count = s .count + 1; machine = freed m i } in
+      let taken : Tally = record { count = s .count + 1; machine = freedOn m i } in
       let same : occupiedBy (versionAt (o .links) (o .header .used)) (o .header .used) i ≡ occupiedBy (m .versions) (m .used) i =
       ap (λ (x : Machine). occupiedBy (x .versions) (x .used) i) (d .shows .same) in
       subst (λ (t : Bool). Does (pick (both t (chosen i)) (plain (counted (o .answer .count + 1)) (gone .header) (gone .links) (gone .rows)) o)

@@ -20,9 +20,9 @@ use Rattle.runs.specs.Machine.{Machine, liveOf}
 use Rattle.runs.specs.Steps.{Step, stays}
 use Rattle.runs.specs.WholeTable.{removeChosenOn, all, retainOn, clearOn}
 use Rattle.runs.specs.Tables.{Shows}
-use Rattle.runs.proofs.Counts.{odd-none}
+use Rattle.runs.proofs.Counts.{rise-even, odd-none}
 use Rattle.runs.proofs.Tests.{occupied-no}
-use Rattle.runs.proofs.ChosenMachine.{goes, left, rise-even}
+use Rattle.runs.proofs.ChosenMachine.{goes, left}
 use Rattle.runs.proofs.Drained.{live-is}
 use Rattle.runs.proofs.Chosen.{chosen-does, clear-does, retain-does}
 

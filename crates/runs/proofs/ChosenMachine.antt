@@ -12,19 +12,15 @@ use Rattle.rules.specs.Words.{zeroRow, isOdd, rise, occupiedBy}
 use Rattle.rules.proofs.Choice.{by-test, both-true}
 use Rattle.runs.specs.Points.{put}
 use Rattle.runs.specs.Machine.{Machine, liveOf}
-use Rattle.runs.specs.Steps.{freed}
+use Rattle.runs.specs.Steps.{freedOn}
 use Rattle.runs.specs.WholeTable.{Tally, removeIfOn, removeChosenOn}
 use Rattle.runs.proofs.Points.{put-same, put-other}
-use Rattle.runs.proofs.Counts.{odd-change}
+use Rattle.runs.proofs.Counts.{rise-even, odd-change}
 use Rattle.runs.proofs.Tests.{occupied-is}
 
--- an odd version rises to an even one
-pub rise-even : (x : ℕ) → x % 2 ≡ 1 → rise x % 2 ≡ 0
-rise-even x h = omega arith
-
 -- a slot that falls vacant takes one off the count
-pub freed-count : (m : Machine) (i : ℕ) → occupiedBy (m .versions) (m .used) i ≡ true → liveOf (freed m i) + 1 ≡ liveOf m
-unfolding freed
+pub freed-count : (m : Machine) (i : ℕ) → occupiedBy (m .versions) (m .used) i ≡ true → liveOf (freedOn m i) + 1 ≡ liveOf m
+unfolding freedOn
 freed-count m i e =
     let o = occupied-is (m .versions) (m .used) i e in
     omega (
@@ -65,8 +61,8 @@ module _ (chosen : ℕ → Bool) (m : Machine) where
   at-slot : (i n : ℕ) → i ≡ n → goes i ≡ goes n
   at-slot i n e = ap goes e
 
-  left-gone : (n : ℕ) (s : Tally) → Left n s → goes n ≡ true → Left (suc n) (record { count = s .count + 1; machine = freed (s .machine) n })
-  unfolding freed
+  left-gone : (n : ℕ) (s : Tally) → Left n s → goes n ≡ true → Left (suc n) (record { count = s .count + 1; machine = freedOn (s .machine) n })
+  unfolding freedOn
   left-gone n s k e =
       record {
         versions = λ i. ver i (ℕ-discrete i n);
@@ -125,8 +121,8 @@ module _ (chosen : ℕ → Bool) (m : Machine) where
       go : Left n (removeChosenOn chosen n m) → Left (suc n) (removeChosenOn chosen (suc n) m)
       go k =
           let s = removeChosenOn chosen n m in
-          subst (λ (t : Bool). Left (suc n) (pick t (record { count = s .count + 1; machine = freed (s .machine) n }) s)) (sym (test k))
-          (by-test (λ (t : Bool). Left (suc n) (pick t (record { count = s .count + 1; machine = freed (s .machine) n }) s)) (goes n)
+          subst (λ (t : Bool). Left (suc n) (pick t (record { count = s .count + 1; machine = freedOn (s .machine) n }) s)) (sym (test k))
+          (by-test (λ (t : Bool). Left (suc n) (pick t (record { count = s .count + 1; machine = freedOn (s .machine) n }) s)) (goes n)
           (left-gone n s k) (left-kept n s k))
         where
           test : Left n (removeChosenOn chosen n m) → both (occupiedBy (removeChosenOn chosen n m .machine .versions) (removeChosenOn chosen n m .machine .used) n) (chosen n) ≡ goes n

@@ -7,7 +7,7 @@ use native.Mathlib.Decide.{ℕ-discrete}
 use native.Mathlib.Omega.{arith}
 use borrow.Author.Tests.{eq-eqb, ne-eqb}
 use Rattle.rules.specs.Choice.{one-if, countBelow}
-use Rattle.rules.specs.Words.{isOdd}
+use Rattle.rules.specs.Words.{isOdd, rise}
 use Rattle.rules.specs.Runs.{oddCount}
 
 pub count-more : (t : ℕ → Bool) (n : ℕ) → countBelow (suc n) t ≡ countBelow n t + one-if (t n)
@@ -17,6 +17,10 @@ count-more t n = refl
 pub count-none-yet : (t : ℕ → Bool) → countBelow 0 t ≡ 0
 unfolding countBelow
 count-none-yet t = refl
+
+-- an odd version rises to an even one
+pub rise-even : (x : ℕ) → x % 2 ≡ 1 → rise x % 2 ≡ 0
+rise-even x h = omega arith
 
 odd-bit : (x : ℕ) → one-if (isOdd x) ≡ x % 2
 odd-bit x = go (ℕ-discrete (x % 2) 1)
@@ -67,13 +71,6 @@ odd-but-two v (suc n) i j o l g h = go (ℕ-discrete j n) (odd-but-two v n i j)
     go : Dec (j ≡ n) → (i < j → j < n → v i % 2 ≡ 0 → v j % 2 ≡ 0 → suc (suc (oddCount v n)) ≤ n) → suc (suc (oddCount v (suc n))) ≤ suc n
     go (yes e) r = omega (arith, odd-more v n, odd-but-one v n i (omega arith) g, ap (λ (x : ℕ). v x % 2) e)
     go (no m) r = omega (arith, odd-more v n, r o (omega arith) g h)
-
--- all but slot 0 occupied
-pub odd-full : (v : ℕ → ℕ) (n : ℕ) → 0 < n → v 0 % 2 ≡ 0 → ((k : ℕ) → 0 < k → k < n → v k % 2 ≡ 1) → suc (oddCount v n) ≡ n
-odd-full v zero p z h = absurd (omega arith)
-odd-full v (suc zero) p z h = omega (arith, odd-more v 0, odd-none-yet v)
-odd-full v (suc (suc n)) p z h = omega
-    (arith, odd-more v (suc n), odd-full v (suc n) (omega arith) z (λ k a b. h k a (omega arith)), h (suc n) (omega arith) (omega arith))
 
 -- an occupied slot counts
 pub odd-some : (v : ℕ → ℕ) (n i : ℕ) → i < n → v i % 2 ≡ 1 → 1 ≤ oddCount v n

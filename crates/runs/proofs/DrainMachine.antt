@@ -12,14 +12,14 @@ use Rattle.rules.specs.Runs.{Run}
 use Rattle.rules.proofs.Choice.{by-test}
 use Rattle.runs.specs.Points.{put}
 use Rattle.runs.specs.Machine.{Machine, liveOf, backOf}
-use Rattle.runs.specs.Steps.{freed, lowest, drainOn}
+use Rattle.runs.specs.Steps.{freedOn, lowest, drainOn}
 use Rattle.runs.specs.WholeTable.{removeIfOn, removeChosenOn, all, drainsOn}
 use Rattle.runs.proofs.Points.{put-same, put-other}
-use Rattle.runs.proofs.Counts.{odd-some, odd-none}
+use Rattle.runs.proofs.Counts.{rise-even, odd-some, odd-none}
 use Rattle.runs.proofs.Runs.{after-run}
 use Rattle.runs.proofs.Tests.{occupied-yes, occupied-no}
 use Rattle.runs.proofs.Backs.{run-from}
-use Rattle.runs.proofs.ChosenMachine.{rise-even, freed-count}
+use Rattle.runs.proofs.ChosenMachine.{freed-count}
 
 -- slot 0 is in use, and vacant
 pub record Headed (m : Machine) : Type 0 where
@@ -42,27 +42,27 @@ module _ (m : Machine) (z : Headed m) where
       go (yes q) = (q, after-run (m .versions) (m .used) 0 (backOf (m .versions) (m .used) 0) zero-run q)
       go (no q) = absurd (omega (arith, odd-none (m .versions) (m .used) (λ i l. none-lower i (omega arith))))
 
-  pub freed-headed : (i : ℕ) → i ≢ 0 → Headed (freed m i)
-  unfolding freed
+  pub freed-headed : (i : ℕ) → i ≢ 0 → Headed (freedOn m i)
+  unfolding freedOn
   freed-headed i n =
       record {
         positive = z .positive;
         even = ap (λ (x : ℕ). x % 2) (put-other (m .versions) i (rise (m .versions i)) 0 (λ t. n (sym t))) ∙ z .even;
       }
 
-pub freed-used : (m : Machine) (i : ℕ) → freed m i .used ≡ m .used
-unfolding freed
+pub freed-used : (m : Machine) (i : ℕ) → freedOn m i .used ≡ m .used
+unfolding freedOn
 freed-used m i = refl
 
 -- one slot looked at, the count left out
 abbrev removedAt : (ℕ → Bool) → ℕ → Machine → Machine
-removedAt chosen i m = pick (both (occupiedBy (m .versions) (m .used) i) (chosen i)) (freed m i) m
+removedAt chosen i m = pick (both (occupiedBy (m .versions) (m .used) i) (chosen i)) (freedOn m i) m
 
 chosen-more : (chosen : ℕ → Bool) (n : ℕ) (m : Machine) → removeChosenOn chosen (suc n) m .machine ≡ removedAt chosen n (removeChosenOn chosen n m .machine)
 unfolding removeChosenOn removeIfOn
 chosen-more chosen n m =
     let s = removeChosenOn chosen n m in
-    by-test (λ (t : Bool). pick t (record { count = s .count + 1; machine = freed (s .machine) n }) s .machine ≡ pick t (freed (s .machine) n) (s .machine))
+    by-test (λ (t : Bool). pick t (record { count = s .count + 1; machine = freedOn (s .machine) n }) s .machine ≡ pick t (freedOn (s .machine) n) (s .machine))
     (both (occupiedBy (s .machine .versions) (s .machine .used) n) (chosen n)) (λ _. refl) (λ _. refl)
 
 chosen-start : (chosen : ℕ → Bool) (m : Machine) → removeChosenOn chosen 0 m .machine ≡ m
@@ -77,8 +77,8 @@ chosen-vacant chosen (suc n) m h =
     ∙ simp (occupied-no (m .versions) (m .used) n (λ _. h n (omega arith)))
 
 -- once the lowest live slot is gone, none is live as far as there
-gone-too : (m : Machine) → Headed m → 1 ≤ liveOf m → (i : ℕ) → i < suc (lowest m) → freed m (lowest m) .versions i % 2 ≡ 0
-unfolding freed
+gone-too : (m : Machine) → Headed m → 1 ≤ liveOf m → (i : ℕ) → i < suc (lowest m) → freedOn m (lowest m) .versions i % 2 ≡ 0
+unfolding freedOn
 gone-too m z h i l = go (ℕ-discrete i (lowest m))
   where
     go : Dec (i ≡ lowest m) → put (m .versions) (lowest m) (rise (m .versions (lowest m))) i % 2 ≡ 0
@@ -88,19 +88,19 @@ gone-too m z h i l = go (ℕ-discrete i (lowest m))
         ap (λ (x : ℕ). x % 2) (put-other (m .versions) (lowest m) (rise (m .versions (lowest m))) i t) ∙ none-lower m z i (omega arith)
 
 -- the lowest live slot goes first
-lowest-first : (m : Machine) → Headed m → 1 ≤ liveOf m → (d n : ℕ) → n ≡ suc (lowest m) + d → removeChosenOn all n m .machine ≡ removeChosenOn all n (freed m (lowest m)) .machine
+lowest-first : (m : Machine) → Headed m → 1 ≤ liveOf m → (d n : ℕ) → n ≡ suc (lowest m) + d → removeChosenOn all n m .machine ≡ removeChosenOn all n (freedOn m (lowest m)) .machine
 lowest-first m z h zero n e =
     let f : n ≡ suc (lowest m) = omega arith in
     let w = lowest-live m z h in
-    let taken : removedAt all (lowest m) m ≡ freed m (lowest m) = simp (occupied-yes (m .versions) (m .used) (lowest m) (w .0) (w .1)) in
-    subst (λ (k : ℕ). removeChosenOn all k m .machine ≡ removeChosenOn all k (freed m (lowest m)) .machine) (sym f)
+    let taken : removedAt all (lowest m) m ≡ freedOn m (lowest m) = simp (occupied-yes (m .versions) (m .used) (lowest m) (w .0) (w .1)) in
+    subst (λ (k : ℕ). removeChosenOn all k m .machine ≡ removeChosenOn all k (freedOn m (lowest m)) .machine) (sym f)
     (chosen-more all (lowest m) m
     ∙ ap (removedAt all (lowest m)) (chosen-vacant all (lowest m) m (none-lower m z))
     ∙ taken
-    ∙ sym (chosen-vacant all (suc (lowest m)) (freed m (lowest m)) (gone-too m z h)))
+    ∙ sym (chosen-vacant all (suc (lowest m)) (freedOn m (lowest m)) (gone-too m z h)))
 lowest-first m z h (suc d) zero e = absurd (omega arith)
 lowest-first m z h (suc d) (suc n) e =
-    chosen-more all n m ∙ ap (removedAt all n) (lowest-first m z h d n (omega arith)) ∙ sym (chosen-more all n (freed m (lowest m)))
+    chosen-more all n m ∙ ap (removedAt all n) (lowest-first m z h d n (omega arith)) ∙ sym (chosen-more all n (freedOn m (lowest m)))
 
 -- to the end: every live slot, in rising order
 pub drained-all : (n : ℕ) (m : Machine) → Headed m → liveOf m ≡ n → drainsOn n m ≡ removeChosenOn all (m .used) m .machine
@@ -114,6 +114,6 @@ drained-all (suc n) m z e =
     let w = lowest-live m z (omega arith) in
     let one = freed-count m (lowest m) (occupied-yes (m .versions) (m .used) (lowest m) (w .0) (w .1)) in
     simp (ne-eqb (liveOf m) 0 (λ t. omega arith))
-    (drained-all n (freed m (lowest m)) (freed-headed m z (lowest m) (λ t. omega arith)) (omega arith)
-    ∙ ap (λ (k : ℕ). removeChosenOn all k (freed m (lowest m)) .machine) (freed-used m (lowest m))
+    (drained-all n (freedOn m (lowest m)) (freed-headed m z (lowest m) (λ t. omega arith)) (omega arith)
+    ∙ ap (λ (k : ℕ). removeChosenOn all k (freedOn m (lowest m)) .machine) (freed-used m (lowest m))
     ∙ sym (lowest-first m z (omega arith) (m .used - suc (lowest m)) (m .used) (omega (arith, w .0))))

@@ -34,8 +34,8 @@ module _ (v : ℕ → ℕ) (u : ℕ) (l : List ℕ) (i : Fronts v u l) where
       on (x ∷ m) = omega (arith, alike-same x x refl)
 
   -- the run that the next row would go to
-  pub first-run : Run v u (first l) (backOf v u (first l))
-  first-run = run-from v u (first l) first-front
+  place-run : Run v u (first l) (backOf v u (first l))
+  place-run = run-from v u (first l) first-front
 
   no-chain : first l ≡ 0 → l ≡ []
   no-chain h = go l i h
@@ -49,10 +49,10 @@ module _ (v : ℕ → ℕ) (u : ℕ) (l : List ℕ) (i : Fronts v u l) where
   none-vacant z k p q = go (ℕ-discrete (v k % 2) 0)
     where
       starts-at-zero : first l ≡ 0
-      starts-at-zero = omega (arith, first-run .ordered)
+      starts-at-zero = omega (arith, place-run .ordered)
 
       zero-run : Run v u 0 0
-      zero-run = subst (λ (x : ℕ). Run v u x 0) starts-at-zero (subst (λ (x : ℕ). Run v u (first l) x) z first-run)
+      zero-run = subst (λ (x : ℕ). Run v u x 0) starts-at-zero (subst (λ (x : ℕ). Run v u (first l) x) z place-run)
 
       go : Dec (v k % 2 ≡ 0) → v k % 2 ≡ 1
       go (no n) = omega arith
@@ -71,7 +71,7 @@ module _ (v : ℕ → ℕ) (u : ℕ) (l : List ℕ) (i : Fronts v u l) where
     where
       go : Dec (backOf v u (first l) ≡ 0) → backOf v u (first l) ≡ 0
       go (yes e) = e
-      go (no n) = absurd (omega (arith, first-run .vacant (backOf v u (first l)) (first-run .ordered) (omega arith), h (backOf v u (first l)) (omega arith) (first-run .below)))
+      go (no n) = absurd (omega (arith, place-run .vacant (backOf v u (first l)) (place-run .ordered) (omega arith), h (backOf v u (first l)) (omega arith) (place-run .below)))
 
 -- the call
 module _ (l r : List ℕ) (hd : Header) (m : Machine) (s : Shows l r hd m) (side : List ℕ) where

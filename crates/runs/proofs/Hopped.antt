@@ -17,7 +17,7 @@ use Rattle.rules.specs.declared.Header.{Header}
 use Rattle.rules.proofs.Choice.{by-test}
 use Rattle.rules.proofs.HopSteps.{at-end, at-occupied, inside-run, over-run}
 use Rattle.runs.specs.Machine.{Machine, machineOf, backOf}
-use Rattle.runs.specs.Steps.{stays, hopOn}
+use Rattle.runs.specs.Steps.{hopAnswerOn, hopOn}
 use Rattle.runs.specs.Tables.{Shows, Does}
 use Rattle.runs.proofs.Runs.{after-run}
 use Rattle.runs.proofs.Tests.{vacant-yes, occupied-yes, occupied-not, occupied-no}
@@ -35,8 +35,8 @@ module _ (l r : List ℕ) (hd : Header) (after : List ℕ) (L : LinkedTable l (h
 
   -- from the front of a run to the slot after its back
   over : Front v (hd .used) c → pastFront v (hd .used) c ≡ false →
-      hopFrom l hd c ≡ hopOn m c
-  unfolding hopOn vacantAt occupiedAt
+      hopFrom l hd c ≡ hopAnswerOn m c
+  unfolding hopAnswerOn vacantAt occupiedAt
   over f p = sym (over-run l hd c (backOf v (hd .used) c) back-is (vacant-yes v (hd .used) c (f .below) (f .vacant)) p back-vacant (run .ordered)) ∙ same (ℕ-discrete (backOf v (hd .used) c + 1) (hd .used))
     where
       run : Run v (hd .used) c (backOf v (hd .used) c)
@@ -51,34 +51,34 @@ module _ (l r : List ℕ) (hd : Header) (after : List ℕ) (L : LinkedTable l (h
       same : Dec (backOf v (hd .used) c + 1 ≡ hd .used) →
           pick (eqb (backOf v (hd .used) c + 1) (hd .used)) done
           (pick (occupiedBy v (hd .used) (backOf v (hd .used) c + 1)) (visit l (hd .used) (backOf v (hd .used) c + 1)) (refused damaged))
-          ≡ hopOn m c
+          ≡ hopAnswerOn m c
       same (yes e) = simp (eq-eqb (backOf v (hd .used) c + 1) (hd .used) e, lt-leb (hd .used) c (f .below), occupied-no v (hd .used) c (λ _. f .vacant), p)
       same (no n) = simp (ne-eqb (backOf v (hd .used) c + 1) (hd .used) n, lt-leb (hd .used) c (f .below), occupied-no v (hd .used) c (λ _. f .vacant), p, occupied-yes v (hd .used) (backOf v (hd .used) c + 1) (omega (arith, run .below)) (after-run v (hd .used) c (backOf v (hd .used) c) run (omega (arith, run .below))))
 
-  pub hop-is : hopFrom l hd c ≡ hopOn m c
-  unfolding hopOn vacantAt occupiedAt
+  pub hop-is : hopFrom l hd c ≡ hopAnswerOn m c
+  unfolding hopAnswerOn vacantAt occupiedAt
   hop-is = past (decLe (hd .used) c)
     where
-      inside : c < hd .used → occupiedBy v (hd .used) c ≡ false → hopFrom l hd c ≡ hopOn m c
+      inside : c < hd .used → occupiedBy v (hd .used) c ≡ false → hopFrom l hd c ≡ hopAnswerOn m c
       inside h o =
           let e = occupied-not v (hd .used) c o h in
           let w = vacant-yes v (hd .used) c h e in
-          by-test (λ (t : Bool). pastFront v (hd .used) c ≡ t → hopFrom l hd c ≡ hopOn m c) (pastFront v (hd .used) c)
+          by-test (λ (t : Bool). pastFront v (hd .used) c ≡ t → hopFrom l hd c ≡ hopAnswerOn m c) (pastFront v (hd .used) c)
           (λ p _. sym (inside-run l hd c p) ∙ simp (lt-leb (hd .used) c h, o, p))
           (λ p _. over (front-by v (hd .used) c w p) p) refl
 
-      below : c < hd .used → hopFrom l hd c ≡ hopOn m c
+      below : c < hd .used → hopFrom l hd c ≡ hopAnswerOn m c
       below h =
-          by-test (λ (t : Bool). occupiedBy v (hd .used) c ≡ t → hopFrom l hd c ≡ hopOn m c) (occupiedBy v (hd .used) c)
+          by-test (λ (t : Bool). occupiedBy v (hd .used) c ≡ t → hopFrom l hd c ≡ hopAnswerOn m c) (occupiedBy v (hd .used) c)
           (λ o _. sym (at-occupied l hd c o) ∙ simp (lt-leb (hd .used) c h, o))
           (λ o _. inside h o) refl
 
-      past : Dec (hd .used ≤ c) → hopFrom l hd c ≡ hopOn m c
+      past : Dec (hd .used ≤ c) → hopFrom l hd c ≡ hopAnswerOn m c
       past (yes h) = sym (at-end l hd c h) ∙ simp (le-leb (hd .used) c h)
       past (no h) = below (omega arith)
 
-pub hop-does : (l r : List ℕ) (hd : Header) (m : Machine) → Shows l r hd m → (c : ℕ) → Does (hopRule l r hd c) (stays m (hopOn m c))
+pub hop-does : (l r : List ℕ) (hd : Header) (m : Machine) → Shows l r hd m → (c : ℕ) → Does (hopRule l r hd c) (hopOn m c)
 unfolding hopRule
 hop-does l r hd m s c =
-    unless-does l r hd m s _ 0 (entry-passes l r hd (s .shaped) (s .sound .zero-even .even)) _ (stays m (hopOn m c))
-    (λ _. record { answer = hop-is l r hd _ (linked l hd (s .sound)) c ∙ ap (λ (x : Machine). hopOn x c) (s .same); row = refl; shows = s })
+    unless-does l r hd m s _ 0 (entry-passes l r hd (s .shaped) (s .sound .zero-even .even)) _ (hopOn m c)
+    (λ _. record { answer = hop-is l r hd _ (linked l hd (s .sound)) c ∙ ap (λ (x : Machine). hopAnswerOn x c) (s .same); row = refl; shows = s })

@@ -14,7 +14,7 @@ use Rattle.rules.specs.Values.{Outcome, unless}
 use Rattle.rules.specs.Refusals.{astray, passes, shapeNumber, liveBy, liveKey, liveNumber}
 use Rattle.rules.specs.Access.{keyNumber}
 use Rattle.rules.specs.Runs.{oddCount}
-use Rattle.rules.specs.Remove.{beside, apartNumber, leftNumber, rightNumber, removeNumber, freed as freedLinks, removeStep, removeBy, removeSlot, removeAt, removeRule}
+use Rattle.rules.specs.Remove.{beside, apartNumber, leftNumber, rightNumber, removeNumber, freed, removeStep, removeBy, removeSlot, removeAt, removeRule}
 use Rattle.rules.specs.declared.Header.{Header}
 use Rattle.rules.specs.declared.Key.{Key}
 use Rattle.rules.proofs.Choice.{both-true}
@@ -23,17 +23,16 @@ use Rattle.rules.proofs.Shape.{shaped}
 use Rattle.rules.proofs.RemoveSteps.{removed-slot}
 use Rattle.runs.specs.Points.{put}
 use Rattle.runs.specs.Machine.{Machine, keyOf, machineOf, frontsAfter}
-use Rattle.runs.specs.Steps.{keyNumberOn, freed, takenOut, removeOn}
+use Rattle.runs.specs.Steps.{keyNumberOn, freedOn, takenOut, removeOn}
 use Rattle.runs.specs.Tables.{Shows, Does}
 use Rattle.runs.proofs.Points.{put-same, put-other}
 use Rattle.runs.proofs.Tests.{both-if, vacant-yes, vacant-is, occupied-is}
 use Rattle.runs.proofs.Words.{holds-below, version-put, length-link}
 use Rattle.runs.proofs.Rows.{row-below, row-put, length-row}
-use Rattle.runs.proofs.Counts.{odd-change, odd-some}
+use Rattle.runs.proofs.Counts.{rise-even, odd-change, odd-some}
 use Rattle.runs.proofs.Followed.{IsVacant, remove-t, remove-right-links, remove-left-link}
 use Rattle.runs.proofs.RemoveWords.{near, near-is, freed-linked, freed-versions, freed-length}
 use Rattle.runs.proofs.Sound.{LinkedTable, linked}
-use Rattle.runs.proofs.ChosenMachine.{rise-even}
 use Rattle.runs.proofs.Shown.{skipped, entry-passes, still-shaped, shows, unless-does}
 
 -- a link to a vacant slot in use does not go astray
@@ -108,14 +107,14 @@ module _ (l r : List ℕ) (hd : Header) (shape : shapeNumber l r hd ≡ 0) (afte
     w = rise (versionAt l (hd .used) i)
 
     abbrev l′ : List ℕ
-    l′ = setVersion (freedLinks l (hd .used) i (beside l (hd .used) i)) i w
+    l′ = setVersion (freed l (hd .used) i (beside l (hd .used) i)) i w
 
     abbrev r′ : List ℕ
     r′ = setRow r i zeroRow
 
     versions-after : versionAt l′ (hd .used) ≡ put (versionAt l (hd .used)) i w
     versions-after =
-        version-put (freedLinks l (hd .used) i (beside l (hd .used) i)) i w (hd .used)
+        version-put (freed l (hd .used) i (beside l (hd .used) i)) i w (hd .used)
         (holds-below _ (hd .used) i (omega (arith, fits, freed-length l (hd .used) i (beside l (hd .used) i))) low)
         ∙ ap (λ (f : ℕ → ℕ). put f i w) (freed-versions l (hd .used) i (beside l (hd .used) i))
 
@@ -123,7 +122,7 @@ module _ (l r : List ℕ) (hd : Header) (shape : shapeNumber l r hd ≡ 0) (afte
     rows-after = row-put r i zeroRow (hd .used) (row-below r (hd .used) i row-fits low) refl
 
     length-after : length l′ ≡ length l
-    length-after = length-link (freedLinks l (hd .used) i (beside l (hd .used) i)) i 0 w ∙ freed-length l (hd .used) i (beside l (hd .used) i)
+    length-after = length-link (freed l (hd .used) i (beside l (hd .used) i)) i 0 w ∙ freed-length l (hd .used) i (beside l (hd .used) i)
 
     count-after : hd .live - 1 ≡ oddCount (versionAt l′ (hd .used)) (hd .used)
     count-after =
@@ -141,8 +140,8 @@ module _ (l r : List ℕ) (hd : Header) (shape : shapeNumber l r hd ≡ 0) (afte
         let s = shaped l r hd shape in
         still-shaped l r l′ r′ hd (oneLess hd) shape length-after (length-row r i zeroRow) (s .some) (s .within) (omega (arith, s .few))
 
-    machine-after : machineOf l′ r′ (oneLess hd) (frontsAfter (versionAt l (hd .used)) (hd .used) after i) ≡ freed (machineOf l r hd after) i
-    unfolding freed
+    machine-after : machineOf l′ r′ (oneLess hd) (frontsAfter (versionAt l (hd .used)) (hd .used) after i) ≡ freedOn (machineOf l r hd after) i
+    unfolding freedOn
     machine-after = cc (versions-after, rows-after, length-after)
 
     freed-does : (y : ℕ) → Does (removeSlot l r hd (record { index = i; version = y })) (takenOut (machineOf l r hd after) (record { index = i; version = y }))

@@ -17,9 +17,9 @@ use Rattle.rules.specs.declared.Header.{Header}
 use Rattle.rules.specs.declared.Key.{Key}
 use Rattle.rules.proofs.Choice.{by-test}
 use Rattle.runs.specs.Machine.{Machine, liveOf, keyOf, backOf}
-use Rattle.runs.specs.Steps.{visitOn, hopOn}
+use Rattle.runs.specs.Steps.{visitOn, hopAnswerOn}
 use Rattle.runs.specs.Tables.{Shows}
-use Rattle.runs.specs.Walks.{Walk, ended, visiting, onward, walk, liveKeys, indices, RisingFrom, Rising}
+use Rattle.runs.specs.Walks.{Walk, ended, visiting, onward, walk, liveKeys, indices, AscendingFrom, Ascending}
 use Rattle.runs.proofs.Points.{alike-same, alike-other}
 use Rattle.runs.proofs.Counts.{odd-more, odd-none-yet}
 use Rattle.runs.proofs.Runs.{par, after-run}
@@ -38,12 +38,12 @@ pub record Visits (m : Machine) (c q : ℕ) : Type 0 where
   pub below : q < m .used
   pub live : m .versions q % 2 ≡ 1
   pub between : None m c q
-  pub answer : hopOn m c ≡ visitOn m q
+  pub answer : hopAnswerOn m c ≡ visitOn m q
 
 -- no live slot is left, and the step is done
 pub record Stops (m : Machine) (c : ℕ) : Type 0 where
   pub left : None m c (m .used)
-  pub answer : hopOn m c ≡ done
+  pub answer : hopAnswerOn m c ≡ done
 
 -- one of the two
 pub data Next (m : Machine) (c : ℕ) : Type 0 where
@@ -51,11 +51,11 @@ pub data Next (m : Machine) (c : ℕ) : Type 0 where
   stops : Stops m c → Next m c
 
 -- keys that rise from n + 1 rise from n; of the slots below n they have none
-lower : (n : ℕ) (ks : List Key) → RisingFrom (n + 1) ks → RisingFrom n ks
+lower : (n : ℕ) (ks : List Key) → AscendingFrom (n + 1) ks → AscendingFrom n ks
 lower n [] h = tt
 lower n (k ∷ ks) h = (omega arith, h .1)
 
-below-none : (i n : ℕ) (ks : List Key) → RisingFrom n ks → i < n → times i (indices ks) ≡ 0
+below-none : (i n : ℕ) (ks : List Key) → AscendingFrom n ks → i < n → times i (indices ks) ≡ 0
 below-none i n [] h l = refl
 below-none i n (k ∷ ks) h l =
     omega (arith, alike-other i (k .index) (λ t. omega arith), below-none i (k .index + 1) ks (h .1) (omega arith))
@@ -69,7 +69,7 @@ module _ (m : Machine) where
 
   -- from a cursor that is not past a front the step goes to the next live slot, over a run if it is at its front
   pub hop-next : (c : ℕ) → pastFront (m .versions) (m .used) c ≡ false → Next m c
-  unfolding hopOn
+  unfolding hopAnswerOn
   hop-next c p = past (decLe u c)
     where
       b : ℕ
@@ -158,16 +158,16 @@ module _ (m : Machine) where
       skip-one d k h (n k (omega arith) (omega arith)) ∙ skip g d (k + 1) q (omega arith) (omega arith) (λ i a z. n i (omega arith) z)
 
   -- in rising order
-  rising : (d k : ℕ) → RisingFrom k (liveKeys m d k)
+  rising : (d k : ℕ) → AscendingFrom k (liveKeys m d k)
   unfolding liveKeys
   rising zero k = tt
   rising (suc d) k =
       let ks = liveKeys m d (k + 1) in
-      by-test (λ (t : Bool). RisingFrom k (pick t (keyOf m k ∷ ks) ks)) (occupiedBy v u k)
+      by-test (λ (t : Bool). AscendingFrom k (pick t (keyOf m k ∷ ks) ks)) (occupiedBy v u k)
       (λ _. (omega arith, rising d (k + 1)))
       (λ _. lower k ks (rising d (k + 1)))
 
-  pub live-keys-rise : Rising (liveKeys m (m .used) 0)
+  pub live-keys-rise : Ascending (liveKeys m (m .used) 0)
   live-keys-rise = rising _ _
 
   -- each live slot once, and no other
@@ -220,7 +220,7 @@ module _ (l r : List ℕ) (hd : Header) (m : Machine) (s : Shows l r hd m) where
   unfolding walk liveKeys
   walk-from zero c h p = ap ended (hop-does l r hd m s c .answer ∙ over (hop-next m c p))
     where
-      over : Next m c → hopOn m c ≡ done
+      over : Next m c → hopAnswerOn m c ≡ done
       over (visits q w) = absurd (omega arith)
       over (stops w) = w .answer
   walk-from (suc d) c h p = ap step (hop-does l r hd m s c .answer) ∙ go (hop-next m c p) (walk-from d)
@@ -233,7 +233,7 @@ module _ (l r : List ℕ) (hd : Header) (m : Machine) (s : Shows l r hd m) where
 
       go : Next m c →
           ((q : ℕ) → m .used ≤ q + d → pastFront (m .versions) (m .used) q ≡ false → walk l r hd d q ≡ found (liveKeys m d q)) →
-          step (hopOn m c) ≡ found (liveKeys m (suc d) c)
+          step (hopAnswerOn m c) ≡ found (liveKeys m (suc d) c)
       go (visits q w) ih =
           ap step (w .answer)
           ∙ ap (visiting (keyOf m q)) (ih (q + 1) (omega arith) (after-live m q (w .live)))

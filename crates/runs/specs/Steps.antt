@@ -78,8 +78,8 @@ keyNumberOn n m k =
     ▸ (not (liveBy (m .versions) (m .used) k), notLive)
 
 -- slot i falls vacant
-unfoldable pub freed : Machine → ℕ → Machine
-freed m i =
+unfoldable pub freedOn : Machine → ℕ → Machine
+freedOn m i =
     record {
       versions = put (m .versions) i (rise (m .versions i));
       rows = put (m .rows) i zeroRow;
@@ -90,7 +90,7 @@ freed m i =
 
 -- remove, and the removal of slot i under its key
 abbrev pub takenOut : Machine → Key → Step
-takenOut m k = record { answer = keyed k; row = m .rows (k .index); machine = freed m (k .index) }
+takenOut m k = record { answer = keyed k; row = m .rows (k .index); machine = freedOn m (k .index) }
 
 unfoldable pub removeOn : Machine → Key → Step
 removeOn m k = stepUnless m (keyNumberOn passes m k) (takenOut m k)
@@ -118,13 +118,16 @@ replaceOn m k side =
 abbrev pub visitOn : Machine → ℕ → Values
 visitOn m i = visited (keyOf m i) (i + 1)
 
-unfoldable pub hopOn : Machine → ℕ → Values
-hopOn m c =
+unfoldable pub hopAnswerOn : Machine → ℕ → Values
+hopAnswerOn m c =
     let q = backOf (m .versions) (m .used) c + 1 in
     pick (leb (m .used) c) done
     (pick (occupiedBy (m .versions) (m .used) c) (visitOn m c)
     (pick (pastFront (m .versions) (m .used) c) (refused staleCursor)
     (pick (eqb q (m .used)) done (visitOn m q))))
+
+abbrev pub hopOn : Machine → ℕ → Step
+hopOn m c = stays m (hopAnswerOn m c)
 
 -- the drain step: the lowest live slot is the one after slot 0's run
 abbrev pub lowest : Machine → ℕ

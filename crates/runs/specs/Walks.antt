@@ -43,9 +43,9 @@ abbrev pub indices : List Key → List ℕ
 indices = map (λ k. k .index)
 
 -- each slot is above the one before it, the first at least n
-abbrev pub RisingFrom : ℕ → List Key → Type 0
-RisingFrom n [] = Unit {0}
-RisingFrom n (k ∷ ks) = (n ≤ k .index) × RisingFrom (k .index + 1) ks
+abbrev pub AscendingFrom : ℕ → List Key → Type 0
+AscendingFrom n [] = Unit {0}
+AscendingFrom n (k ∷ ks) = (n ≤ k .index) × AscendingFrom (k .index + 1) ks
 
-abbrev pub Rising : List Key → Type 0
-Rising ks = RisingFrom 0 ks
+abbrev pub Ascending : List Key → Type 0
+Ascending ks = AscendingFrom 0 ks

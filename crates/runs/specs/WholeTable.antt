@@ -10,7 +10,8 @@ use Rattle.rules.specs.Values.{counted, done}
 use Rattle.rules.specs.Refusals.{passes, sideNumber}
 use Rattle.rules.specs.Retain.{struckBy}
 use Rattle.runs.specs.Machine.{Machine, liveOf}
-use Rattle.runs.specs.Steps.{Step, stays, stepUnless, freed, drainOn}
+use Rattle.runs.specs.Rising.{rising}
+use Rattle.runs.specs.Steps.{Step, stays, stepUnless, freedOn, drainOn}
 
 -- the drain step n times over
 unfoldable pub drainsOn : ℕ → Machine → Machine
@@ -25,7 +26,7 @@ pub record Tally : Type 0 where
 unfoldable pub removeIfOn : (ℕ → Bool) → ℕ → Tally → Tally
 removeIfOn chosen i s =
     pick (both (occupiedBy (s .machine .versions) (s .machine .used) i) (chosen i))
-    (record { count = s .count + 1; machine = freed (s .machine) i }) s
+    (record { count = s .count + 1; machine = freedOn (s .machine) i }) s
 
 unfoldable pub removeChosenOn : (ℕ → Bool) → ℕ → Machine → Tally
 removeChosenOn chosen zero m = record { count = 0; machine = m }
@@ -50,16 +51,18 @@ checkOn m = stays m done
 abbrev pub roomOn : Machine → Step
 roomOn m = stays m (counted (m .lent - liveOf m))
 
--- where a machine begins: start; rebuild of n slots, with the fronts it chains
-abbrev pub startOn : ℕ → Machine
-startOn lent = record { versions = λ _. 0; rows = λ _. zeroRow; used = 1; fronts = []; lent = lent }
+-- where a machine begins: start; a rebuild of n slots, which keeps the versions and the rows of occupied slots, and chains the
+-- fronts of the runs in rising order. A rebuild may read slots that were not in use, so it is a step from words, not from a machine
+abbrev pub startOn : ℕ → Step
+startOn lent =
+    stays (record { versions = λ _. 0; rows = λ _. zeroRow; used = 1; fronts = []; lent = lent }) done
 
-abbrev pub rebuildOn : (ℕ → ℕ) → (ℕ → List ℕ) → ℕ → List ℕ → ℕ → Machine
-rebuildOn v rows n fronts lent =
-    record {
+abbrev pub rebuildOn : (ℕ → ℕ) → (ℕ → List ℕ) → ℕ → ℕ → Step
+rebuildOn v rows n lent =
+    stays (record {
       versions = v;
       rows = λ i. pick (vacantBy v n i) zeroRow (rows i);
       used = n;
-      fronts = fronts;
+      fronts = rising v n;
       lent = lent;
-    }
+    }) done
