@@ -18,7 +18,7 @@ use Rattle.runs.specs.Machine.{Machine, first, backOf}
 use Rattle.runs.specs.Steps.{place, insertNumberOn, insertOn}
 use Rattle.runs.specs.Tables.{Shows}
 use Rattle.runs.proofs.Points.{alike-same, alike-other}
-use Rattle.runs.proofs.Runs.{down}
+use Rattle.runs.proofs.Runs.{in-a-run}
 use Rattle.runs.proofs.Fronts.{Fronts, fronts-once}
 use Rattle.runs.proofs.Backs.{run-from}
 use Rattle.runs.proofs.Sound.{linked}
@@ -57,14 +57,13 @@ module _ (v : ℕ → ℕ) (u : ℕ) (l : List ℕ) (i : Fronts v u l) where
       go : Dec (v k % 2 ≡ 0) → v k % 2 ≡ 1
       go (no n) = omega arith
       go (yes e) =
-          let d = down v k e in
-          let f : Front v u (d .0) = record { below = omega (arith, d .1); vacant = d .3 (d .0) (omega arith) (d .1); starts = d .2 } in
-          let c = ap (λ (m : List ℕ). times (d .0) (0 ∷ m)) (no-chain starts-at-zero) in
-          absurd (fin (d .0) (d .3) (ℕ-discrete (d .0) 0) (omega (arith, i .every (d .0) f, c)))
+          let r = in-a-run v u k q e in
+          let c = ap (λ (m : List ℕ). times (r .0) (0 ∷ m)) (no-chain starts-at-zero) in
+          absurd (fin (r .0) (r .1) (r .2) (r .3) (r .4) (ℕ-discrete (r .0) 0) (omega (arith, i .every (r .0) (r .2 .front), c)))
         where
-          fin : (f : ℕ) → ((m : ℕ) → f ≤ m → m ≤ k → v m % 2 ≡ 0) → Dec (f ≡ 0) → 1 ≤ times f (0 ∷ []) → ⊥
-          fin f g (yes t) c = omega (arith, g 1 (omega arith) (omega arith), zero-run .stops (omega arith))
-          fin f g (no t) c = omega (arith, alike-other f 0 t)
+          fin : (f b : ℕ) → Run v u f b → f ≤ k → k ≤ b → Dec (f ≡ 0) → 1 ≤ times f (0 ∷ []) → ⊥
+          fin f b r g h (yes t) c = omega (arith, r .vacant 1 (omega arith) (omega arith), zero-run .stops (omega arith))
+          fin f b r g h (no t) c = omega (arith, alike-other f 0 t)
 
   pub all-occupied : ((k : ℕ) → 0 < k → k < u → v k % 2 ≡ 1) → backOf v u (first l) ≡ 0
   all-occupied h = go (ℕ-discrete (backOf v u (first l)) 0)
@@ -73,25 +72,25 @@ module _ (v : ℕ → ℕ) (u : ℕ) (l : List ℕ) (i : Fronts v u l) where
       go (yes e) = e
       go (no n) = absurd (omega (arith, place-run .vacant (backOf v u (first l)) (place-run .ordered) (omega arith), h (backOf v u (first l)) (omega arith) (place-run .below)))
 
+-- nothing but slot 0 is vacant
+abbrev pub NoneVacant : List ℕ → ℕ → Type 0
+NoneVacant l used = (i : ℕ) → 0 < i → i < used → versionAt l used i % 2 ≡ 1
+
 -- the call
 module _ (l r : List ℕ) (hd : Header) (m : Machine) (s : Shows l r hd m) (side : List ℕ) where
-  -- nothing but slot 0 is vacant
-  abbrev pub NoneVacant : Type 0
-  NoneVacant = (i : ℕ) → 0 < i → i < hd .used → versionAt l (hd .used) i % 2 ≡ 1
-
   fronts-are : Fronts (versionAt l (hd .used)) (hd .used) (s .sound .circle .after)
   fronts-are = linked l hd (s .sound) .fronts
 
-  place-zero : NoneVacant → place m ≡ 0
+  place-zero : NoneVacant l (hd .used) → place m ≡ 0
   place-zero h = ap place (sym (s .same)) ∙ all-occupied (versionAt l (hd .used)) (hd .used) (s .sound .circle .after) fronts-are h
 
-  pub full-if : length side ≡ rowWords → hd .used ≡ lentOf l → NoneVacant → insertRule l r hd side .answer ≡ refused full
+  pub full-if : length side ≡ rowWords → hd .used ≡ lentOf l → NoneVacant l (hd .used) → insertRule l r hd side .answer ≡ refused full
   unfolding insertOn insertNumberOn sideNumber _▸_
   full-if whole e h =
       let u : m .used ≡ m .lent = ap (λ (x : Machine). x .used) (sym (s .same)) ∙ e ∙ ap (λ (x : Machine). x .lent) (s .same) in
       insert-does l r hd m s side .answer ∙ simp (eq-eqb _ _ whole, eq-eqb _ _ (place-zero h), eq-eqb _ _ u)
 
-  pub full-only-if : insertRule l r hd side .answer ≡ refused full → (hd .used ≡ lentOf l) × NoneVacant
+  pub full-only-if : insertRule l r hd side .answer ≡ refused full → (hd .used ≡ lentOf l) × NoneVacant l (hd .used)
   full-only-if e =
       let f = full-only l r hd side e in
       let L = linked l hd (s .sound) in
