@@ -1,7 +1,7 @@
 -- The theorems, call by call: on a sound table each rule is the machine's step and leaves a sound table; none gives 2; and two
 -- tables that are one machine answer alike and stay one machine, whatever stands inside their runs and in the links of occupied
 -- slots. Assumes nothing.
-use mathlib.Core.Path.{_≡_, sym, ap, _∙_, fun-ext}
+use mathlib.Core.Path.{_≡_, sym, ap, _∙_, subst, fun-ext}
 use mathlib.Core.Logic.{_≢_}
 use mathlib.Core.List.{List}
 use mathlib.Core.Bool.{Bool}
@@ -9,13 +9,13 @@ use Prim.Native.Nat.{ℕ, _+_}
 use native.Mathlib.Omega.{arith}
 use lib.ListN.{length}
 use lib.Dec.{leb, eqb}
-use Rattle.rules.specs.Words.{rowWords, versionAt, nextAt, prevAt, occupiedBy}
-use Rattle.rules.specs.Values.{Values, Outcome, refused}
-use Rattle.rules.specs.Refusals.{_▸_, passes, shape, damaged, evenVersion, notLive, full, shapeNumber, sideNumber}
+use Rattle.rules.specs.Words.{rowWords, versionAt, nextAt, prevAt, rowAt, occupiedBy}
+use Rattle.rules.specs.Values.{Values, Outcome, refused, unless}
+use Rattle.rules.specs.Refusals.{_▸_, passes, shape, damaged, evenVersion, notLive, full, wrongPresence, zeroOccupied, lentNumber, shapeNumber, sideNumber}
 use Rattle.rules.specs.Runs.{Front, pastFront}
 use Rattle.rules.specs.Sound.{Sound}
-use Rattle.rules.specs.Start.{roomRule}
-use Rattle.rules.specs.Access.{keyNumber, replaceRule}
+use Rattle.rules.specs.Start.{startRule, roomRule}
+use Rattle.rules.specs.Access.{keyNumber, lookRule, replaceRule}
 use Rattle.rules.specs.Insert.{insertRule}
 use Rattle.rules.specs.Remove.{removeRule}
 use Rattle.rules.specs.Hop.{hopRule}
@@ -23,6 +23,7 @@ use Rattle.rules.specs.Drain.{drainRule}
 use Rattle.rules.specs.Check.{checkRule}
 use Rattle.rules.specs.Clear.{clearRule}
 use Rattle.rules.specs.Retain.{retainRule}
+use Rattle.rules.specs.Rebuild.{rebuildNumber, rebuildRule}
 use Rattle.rules.specs.declared.Header.{Header}
 use Rattle.rules.specs.declared.Key.{Key}
 use Rattle.rules.proofs.Choice.{by-pick}
@@ -35,7 +36,7 @@ use Rattle.runs.proofs.Sound.{linked, off-zero}
 use Rattle.runs.proofs.Shown.{header-is}
 use Rattle.runs.proofs.Inserted.{insert-does}
 use Rattle.runs.proofs.Removed.{key-number-is, remove-does}
-use Rattle.runs.proofs.Accessed.{replace-does, room-does}
+use Rattle.runs.proofs.Accessed.{look-is, replace-does, room-does}
 use Rattle.runs.proofs.Hopped.{hop-does}
 use Rattle.runs.proofs.Drained.{drain-does}
 use Rattle.runs.proofs.Chosen.{checked-shows, check-does, clear-does, retain-does}
@@ -82,18 +83,36 @@ one-answer call step sim l r l′ r′ hd hd′ m s t =
       shows′ = e .shows;
     }
 
--- words inside a run and link words of occupied slots mean nothing: sound tables with the same versions, and the same next at the
--- fronts of runs, are one machine
-pub same-machine : (l l′ r : List ℕ) (hd : Header) (s : Sound l hd) (t : Sound l′ hd) → length l ≡ length l′ →
-    ((i : ℕ) → versionAt l (hd .used) i ≡ versionAt l′ (hd .used) i) →
-    ((i : ℕ) → Front (versionAt l (hd .used)) (hd .used) i → nextAt l (hd .used) i ≡ nextAt l′ (hd .used) i) →
-    machineOf l r hd (s .circle .after) ≡ machineOf l′ r hd (t .circle .after)
-same-machine l l′ r hd s t e v n =
-    let L = linked l hd s in
-    let M = linked l′ hd t in
-    let chains = seg-agree (nextAt l (hd .used)) (prevAt l (hd .used)) (nextAt l′ (hd .used)) (prevAt l′ (hd .used)) 0 (s .circle .after) (t .circle .after) 0 (L .seg) (M .seg)
-    (off-zero _ _ _ (L .fronts)) (off-zero _ _ _ (M .fronts)) (λ k h. n k (s .circle .only k h)) in
-    cc (e, fun-ext v, chains)
+pub one-key-number : (l r l′ r′ : List ℕ) (hd hd′ : Header) (m : Machine) → Shows l r hd m → Shows l′ r′ hd′ m → (k : Key) →
+    keyNumber l r hd k ≡ keyNumber l′ r′ hd′ k
+one-key-number l r l′ r′ hd hd′ m s t k = key-number-is l r hd m s k ∙ sym (key-number-is l′ r′ hd′ m t k)
+
+pub one-look : (l r l′ r′ : List ℕ) (hd hd′ : Header) (m : Machine) → Shows l r hd m → Shows l′ r′ hd′ m → (k : Key) →
+    lookRule l r hd k ≡ lookRule l′ r′ hd′ k
+one-look l r l′ r′ hd hd′ m s t k = look-is l r hd m s k ∙ sym (look-is l′ r′ hd′ m t k)
+
+-- words inside a run and link words of occupied slots mean nothing: sound tables with the same versions and rows, and the same next
+-- at the fronts of runs, are one machine
+module _ (l r l′ r′ : List ℕ) (hd : Header) (s : Sound l hd) (t : Sound l′ hd) (lengths : length l ≡ length l′)
+    (versions : (i : ℕ) → versionAt l (hd .used) i ≡ versionAt l′ (hd .used) i)
+    (rows : (i : ℕ) → rowAt r (hd .used) i ≡ rowAt r′ (hd .used) i)
+    (nexts : (i : ℕ) → Front (versionAt l (hd .used)) (hd .used) i → nextAt l (hd .used) i ≡ nextAt l′ (hd .used) i) where
+  pub same-machine : machineOf l r hd (s .circle .after) ≡ machineOf l′ r′ hd (t .circle .after)
+  same-machine =
+      let L = linked l hd s in
+      let M = linked l′ hd t in
+      let chains =
+      seg-agree (nextAt l (hd .used)) (prevAt l (hd .used)) (nextAt l′ (hd .used)) (prevAt l′ (hd .used)) 0 (s .circle .after) (t .circle .after) 0
+      (L .seg) (M .seg) (off-zero _ _ _ (L .fronts)) (off-zero _ _ _ (M .fronts)) (λ k h. nexts k (s .circle .only k h)) in
+      cc (lengths, fun-ext versions, fun-ext rows, chains)
+
+  pub means-nothing : shapeNumber l r hd ≡ 0 → shapeNumber l′ r′ hd ≡ 0 →
+      (call : List ℕ → List ℕ → Header → Outcome) (step : Machine → Step) → Simulates call step →
+      SameAnswer (call l r hd) (call l′ r′ hd) (step (machineOf l r hd (s .circle .after)) .machine)
+  means-nothing e e′ call step sim =
+      let m = machineOf l r hd (s .circle .after) in
+      one-answer call step sim l r l′ r′ hd hd m (checked-shows l r hd e s)
+      (subst (Shows l′ r′ hd) (sym same-machine) (checked-shows l′ r′ hd e′ t))
 
 -- 2 is never given: the machine has no chain that names it
 abbrev NotTwo : ℕ → Type 0
@@ -114,6 +133,17 @@ side-never n asked = chain-never passes shape _ (λ e. omega arith) (λ e. omega
 key-never : (n : ℕ) (m : Machine) (k : Key) → NotTwo n → NotTwo (keyNumberOn n m k)
 unfolding keyNumberOn
 key-never n m k h = chain-never _ notLive _ (chain-never n evenVersion _ h (λ e. omega arith)) (λ e. omega arith)
+
+lent-never : (links rows : ℕ) → NotTwo (lentNumber links rows)
+unfolding lentNumber
+lent-never links rows =
+    chain-never _ shape _ (chain-never _ shape _ (chain-never _ shape _ (chain-never _ shape _ (chain-never passes shape _ none one) one) one) one) one
+  where
+    none : NotTwo passes
+    none e = omega arith
+
+    one : NotTwo shape
+    one e = omega arith
 
 never : (call : List ℕ → List ℕ → Header → Outcome) (step : Machine → Step) → Simulates call step →
     ((m : Machine) → NotTwo (step m .answer .number)) → NeverGives damaged call
@@ -176,3 +206,19 @@ pub key-number-never-2 : (l r : List ℕ) (hd : Header) → shapeNumber l r hd �
 key-number-never-2 l r hd e s k q =
     let m = machineOf l r hd (s .circle .after) in
     key-never passes m k (λ z. omega arith) (sym (key-number-is l r hd m (checked-shows l r hd e s) k) ∙ q)
+
+-- start and rebuild name it nowhere
+pub start-never-2 : (l r : List ℕ) (hd : Header) → startRule l r hd .answer .number ≡ damaged → ⊥
+unfolding startRule unless lentNumber
+start-never-2 l r hd =
+    by-pick (λ (o : Outcome). NotTwo (o .answer .number)) (eqb (lentNumber (length l) (length r)) 0) _ _ (λ _ e. omega arith) (λ _. lent-never (length l) (length r))
+
+pub rebuild-never-2 : (l r : List ℕ) (hd : Header) (bytes : List ℕ) → rebuildRule l r hd bytes .answer .number ≡ damaged → ⊥
+unfolding rebuildRule unless rebuildNumber
+rebuild-never-2 l r hd bytes =
+    by-pick (λ (o : Outcome). NotTwo (o .answer .number)) (eqb (rebuildNumber l r bytes) 0) _ _ (λ _ e. omega arith)
+    (λ _.
+    chain-never _ zeroOccupied _
+    (chain-never _ wrongPresence _
+    (chain-never _ shape _ (chain-never _ shape _ (lent-never (length l) (length r)) (λ e. omega arith)) (λ e. omega arith)) (λ e. omega arith))
+    (λ e. omega arith))

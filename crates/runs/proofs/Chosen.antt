@@ -1,16 +1,16 @@
--- The chosen removed in rising order, for any choice, on a sound table: never refused, the machine's step, and what is left.
--- Clear and retain are instances. Assumes nothing.
+-- The chosen removed in rising order, for any choice, on a sound table: never refused, and the machine's step. Clear and retain are
+-- instances. What is left is in ChosenLeaves. Assumes nothing.
 use mathlib.Core.Path.{_≡_, refl, sym, ap, _∙_, subst}
 use mathlib.Core.List.{List}
-use mathlib.Core.Bool.{Bool}
+use mathlib.Core.Bool.{Bool, true}
 use Prim.Native.Nat.{ℕ, zero, suc, _+_, _-_}
 use native.Mathlib.Omega.{arith}
 use lib.ListN.{length}
 use lib.Dec.{eqb}
 use Rattle.rules.specs.Choice.{pick, both}
 use Rattle.rules.specs.Words.{zeroRow, versionAt, occupiedAt, occupiedBy, keyAt}
-use Rattle.rules.specs.Values.{Values, Outcome, plain, counted, done, refused}
-use Rattle.rules.specs.Refusals.{passes, shapeNumber, sideNumber, zeroNumber, entryNumber}
+use Rattle.rules.specs.Values.{Values, Outcome, plain, keyed, counted, done, refused}
+use Rattle.rules.specs.Refusals.{passes, shapeNumber, sideNumber, zeroNumber, entryNumber, sideEntryNumber}
 use Rattle.rules.specs.Remove.{removeSlot}
 use Rattle.rules.specs.Check.{soundNumber, checkRule}
 use Rattle.rules.specs.Clear.{drainTimes, clearRule}
@@ -88,7 +88,7 @@ module _ (l r : List ℕ) (hd : Header) (m : Machine) (s : Shows l r hd m) where
       (whole-check _ ∙ side-alone l r hd (s .shaped) (s .sound .zero-even .even) (length bytes) (hd .used)) _ _
       (λ _. chosen-does (struckBy bytes) l r hd m s (hd .used)))
 
--- past the whole check a table is a machine
+-- a sound table of the right shape is a machine
 pub checked-shows : (l r : List ℕ) (hd : Header) → shapeNumber l r hd ≡ 0 → (s : Sound l hd) → Shows l r hd (machineOf l r hd (s .circle .after))
 checked-shows l r hd e s = record { shaped = e; sound = s; same = refl }
 
@@ -103,3 +103,18 @@ clear-ends l r hd e =
     let d = subst (λ (n : ℕ). Does (drainTimes (n + 1) (plain done hd l r)) (stays (drainsOn (liveOf m) m) done)) (sym (live-is l r hd m s))
     (drains-do (liveOf m) (plain done hd l r) m s refl) in
     (d .answer, d .row)
+
+-- and retain, past its check, is refused at no slot that goes
+pub retain-removes : (l r : List ℕ) (hd : Header) (bytes : List ℕ) → retainNumber l r hd bytes ≡ 0 → (i : ℕ) →
+    let o = removeChosen (struckBy bytes) i (plain (counted 0) hd l r) in
+    let k = keyAt (o .links) (o .header .used) i in
+    occupiedAt (o .links) (o .header .used) i ≡ true → removeSlot (o .links) (o .rows) (o .header) k .answer ≡ keyed k
+unfolding retainNumber sideEntryNumber zeroNumber sideNumber occupiedAt
+retain-removes l r hd bytes e i h =
+    let p = sound-passed l hd _ e in
+    let f = passed _ _ _ (omega arith) (passed _ _ _ (omega arith) (p .0) .0) .0 in
+    let m = machineOf l r hd (p .1 .circle .after) in
+    let d = chosen-does (struckBy bytes) l r hd m (checked-shows l r hd f (p .1)) i .shows in
+    let o = removeChosen (struckBy bytes) i (plain (counted 0) hd l r) in
+    removal-does (o .links) (o .rows) (o .header) _ d (keyAt (o .links) (o .header .used) i)
+    (sym (ap (λ (x : Machine). occupiedBy (x .versions) (x .used) i) (d .same)) ∙ h) .answer

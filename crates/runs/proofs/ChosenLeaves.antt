@@ -26,11 +26,11 @@ use Rattle.runs.proofs.ChosenMachine.{goes, left}
 use Rattle.runs.proofs.Drained.{live-is}
 use Rattle.runs.proofs.Chosen.{chosen-does, clear-does, retain-does}
 
-module _ (l r : List ℕ) (hd : Header) (m : Machine) (s : Shows l r hd m) where
-  -- slot i is one of those below n that go
-  abbrev pub went : (ℕ → Bool) → ℕ → ℕ → Bool
-  went chosen n i = both (ltb i n) (both (occupiedBy (versionAt l (hd .used)) (hd .used) i) (chosen i))
+-- slot i is one of those below n that go: it is live, and chosen
+abbrev pub went : List ℕ → Header → (ℕ → Bool) → ℕ → ℕ → Bool
+went l hd chosen n i = both (ltb i n) (both (occupiedBy (versionAt l (hd .used)) (hd .used) i) (chosen i))
 
+module _ (l r : List ℕ) (hd : Header) (m : Machine) (s : Shows l r hd m) where
   module _ (chosen : ℕ → Bool) (n : ℕ) where
     abbrev o : Outcome
     o = removeChosen chosen n (plain (counted 0) hd l r)
@@ -38,23 +38,23 @@ module _ (l r : List ℕ) (hd : Header) (m : Machine) (s : Shows l r hd m) where
     shown : Shows (o .links) (o .rows) (o .header) (removeChosenOn chosen n m .machine)
     shown = chosen-does chosen l r hd m s n .shows
 
-    went-is : (i : ℕ) → both (ltb i n) (goes chosen m i) ≡ went chosen n i
+    went-is : (i : ℕ) → both (ltb i n) (goes chosen m i) ≡ went l hd chosen n i
     went-is i = ap (λ (x : Machine). both (ltb i n) (goes chosen x i)) (sym (s .same))
 
     pub chosen-used : o .header .used ≡ hd .used
     chosen-used = ap (λ (x : Machine). x .used) (shown .same) ∙ left chosen m n .used ∙ ap (λ (x : Machine). x .used) (sym (s .same))
 
-    pub chosen-version : (i : ℕ) → versionAt (o .links) (o .header .used) i ≡ pick (went chosen n i) (rise (versionAt l (hd .used) i)) (versionAt l (hd .used) i)
+    pub chosen-version : (i : ℕ) → versionAt (o .links) (o .header .used) i ≡ pick (went l hd chosen n i) (rise (versionAt l (hd .used) i)) (versionAt l (hd .used) i)
     chosen-version i =
         ap (λ (x : Machine). x .versions i) (shown .same) ∙ left chosen m n .versions i
         ∙ ap (λ (t : Bool). pick t (rise (m .versions i)) (m .versions i)) (went-is i)
-        ∙ ap (λ (x : Machine). pick (went chosen n i) (rise (x .versions i)) (x .versions i)) (sym (s .same))
+        ∙ ap (λ (x : Machine). pick (went l hd chosen n i) (rise (x .versions i)) (x .versions i)) (sym (s .same))
 
-    pub chosen-row : (i : ℕ) → rowAt (o .rows) (o .header .used) i ≡ pick (went chosen n i) zeroRow (rowAt r (hd .used) i)
+    pub chosen-row : (i : ℕ) → rowAt (o .rows) (o .header .used) i ≡ pick (went l hd chosen n i) zeroRow (rowAt r (hd .used) i)
     chosen-row i =
         ap (λ (x : Machine). x .rows i) (shown .same) ∙ left chosen m n .rows i
         ∙ ap (λ (t : Bool). pick t zeroRow (m .rows i)) (went-is i)
-        ∙ ap (λ (x : Machine). pick (went chosen n i) zeroRow (x .rows i)) (sym (s .same))
+        ∙ ap (λ (x : Machine). pick (went l hd chosen n i) zeroRow (x .rows i)) (sym (s .same))
 
     pub chosen-count : o .answer .count + o .header .live ≡ hd .live
     chosen-count =
@@ -81,7 +81,21 @@ module _ (l r : List ℕ) (hd : Header) (m : Machine) (s : Shows l r hd m) where
         live-is l r hd m s,
       )
 
-  -- clear leaves nothing live
+  -- clear: every version that was odd has risen, every row of such a slot is zero
+  pub clear-version : (i : ℕ) → versionAt (clearRule l r hd .links) (clearRule l r hd .header .used) i ≡
+      pick (went l hd all (hd .used) i) (rise (versionAt l (hd .used) i)) (versionAt l (hd .used) i)
+  unfolding clearOn
+  clear-version i =
+      ap (λ (x : Machine). x .versions i) (clear-does l r hd m s .shows .same) ∙ left all m (m .used) .versions i
+      ∙ ap (λ (x : Machine). pick (both (ltb i (x .used)) (goes all x i)) (rise (x .versions i)) (x .versions i)) (sym (s .same))
+
+  pub clear-row : (i : ℕ) → rowAt (clearRule l r hd .rows) (clearRule l r hd .header .used) i ≡ pick (went l hd all (hd .used) i) zeroRow (rowAt r (hd .used) i)
+  unfolding clearOn
+  clear-row i =
+      ap (λ (x : Machine). x .rows i) (clear-does l r hd m s .shows .same) ∙ left all m (m .used) .rows i
+      ∙ ap (λ (x : Machine). pick (both (ltb i (x .used)) (goes all x i)) zeroRow (x .rows i)) (sym (s .same))
+
+  -- and nothing is live
   pub clear-empties : clearRule l r hd .header .live ≡ 0
   unfolding clearOn
   clear-empties =

@@ -66,20 +66,22 @@ down v (suc k) h = go (ℕ-discrete (v k % 2) 0) (down v k)
 
     go : Dec (v k % 2 ≡ 0) → (v k % 2 ≡ 0 → (f : ℕ) × Down v k f) → (f : ℕ) × Down v (suc k) f
     go (yes e) r =
-        let d = r e in
-        ( d .0
-        , record {
+        let d = r e in (
+          d .0,
+          record {
             ordered = omega (arith, d .1 .ordered);
             starts = d .1 .starts;
             vacant = λ i p q. on (d .0) (d .1) i p q (ℕ-discrete i (suc k));
-          })
-    go (no n) r =
-        ( suc k
-        , record {
-            ordered = omega arith;
-            starts = λ j e. omega (arith, par v j k (omega arith));
-            vacant = λ i p q. omega (arith, par v i (suc k) (omega arith));
-          })
+          },
+        )
+    go (no n) r = (
+      suc k,
+      record {
+        ordered = omega arith;
+        starts = λ j e. omega (arith, par v j k (omega arith));
+        vacant = λ i p q. omega (arith, par v i (suc k) (omega arith));
+      },
+    )
 
 up : (v : ℕ → ℕ) (u d k : ℕ) → k + d ≡ u → k < u → v k % 2 ≡ 0 → (b : ℕ) × Up v u k b
 up v u zero k e l h = absurd (omega arith)
@@ -96,14 +98,15 @@ up v u (suc d) k e l h = go (decLt (suc k) u) (ℕ-discrete (v (suc k) % 2) 0) (
     go (no n) _ r = here (λ q. absurd (n q))
     go (yes p) (no n) r = here (λ q. omega arith)
     go (yes p) (yes q) r =
-        let x = r p q in
-        ( x .0
-        , record {
+        let x = r p q in (
+          x .0,
+          record {
             ordered = omega (arith, x .1 .ordered);
             vacant = λ i a b. on (x .0) (x .1) i a b (ℕ-discrete i k);
             below = x .1 .below;
             stops = x .1 .stops;
-          })
+          },
+        )
 
 pub front-run : (v : ℕ → ℕ) (u f : ℕ) → Front v u f → (b : ℕ) × Run v u f b
 front-run v u f h =

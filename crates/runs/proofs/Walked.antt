@@ -8,10 +8,11 @@ use native.Mathlib.Decide.{ℕ-discrete, decLe}
 use native.Mathlib.Omega.{arith}
 use lib.ListN.{length}
 use lib.Dec.{ltb}
-use borrow.Author.Tests.{eq-eqb, ne-eqb, le-leb, lt-leb}
+use borrow.Author.Tests.{eq-eqb, ne-eqb, le-leb, lt-leb, lt-ltb}
 use Rattle.rules.specs.Choice.{pick, both, one-if, times}
 use Rattle.rules.specs.Words.{vacantBy, occupiedBy}
 use Rattle.rules.specs.Values.{Values, done}
+use Rattle.rules.specs.Refusals.{liveBy}
 use Rattle.rules.specs.Runs.{Run, pastFront, oddCount}
 use Rattle.rules.specs.declared.Header.{Header}
 use Rattle.rules.specs.declared.Key.{Key}
@@ -19,7 +20,7 @@ use Rattle.rules.proofs.Choice.{by-test}
 use Rattle.runs.specs.Machine.{Machine, liveOf, keyOf, backOf}
 use Rattle.runs.specs.Steps.{visitOn, hopAnswerOn}
 use Rattle.runs.specs.Tables.{Shows}
-use Rattle.runs.specs.Walks.{Walk, ended, visiting, onward, walk, liveKeys, indices, AscendingFrom, Ascending}
+use Rattle.runs.specs.Walks.{Walk, ended, visiting, onward, walk, liveKeys, indices, AscendingFrom, Ascending, AllLive}
 use Rattle.runs.proofs.Points.{alike-same, alike-other}
 use Rattle.runs.proofs.Counts.{odd-more, odd-none-yet}
 use Rattle.runs.proofs.Runs.{par, after-run}
@@ -170,6 +171,12 @@ module _ (m : Machine) where
   pub live-keys-rise : Ascending (liveKeys m (m .used) 0)
   live-keys-rise = rising _ _
 
+  -- the key of an occupied slot, as it stands, is live
+  live-of : (i : ℕ) → occupiedBy v u i ≡ true → liveBy v u (keyOf m i) ≡ true
+  live-of i e =
+      let o = occupied-is v u i e in
+      simp (lt-ltb i u (o .0), eq-eqb (v i % 2) 1 (o .1), eq-eqb (v i) (v i) refl)
+
   -- each live slot once, and no other
   once : (d k i : ℕ) → k ≤ i → u ≤ k + d → times i (indices (liveKeys m d k)) ≡ one-if (occupiedBy v u i)
   unfolding liveKeys
@@ -194,6 +201,15 @@ module _ (m : Machine) where
 
   pub live-keys-once : (i : ℕ) → times i (indices (liveKeys m (m .used) 0)) ≡ one-if (occupiedBy (m .versions) (m .used) i)
   live-keys-once i = once _ _ i (omega arith) (omega arith)
+
+  -- each of them a live key
+  pub live-keys-live : (d k : ℕ) → AllLive m (liveKeys m d k)
+  unfolding liveKeys
+  live-keys-live zero k = tt
+  live-keys-live (suc d) k =
+      by-test (λ (t : Bool). occupiedBy v u k ≡ t → AllLive m (pick t (keyOf m k ∷ liveKeys m d (k + 1)) (liveKeys m d (k + 1)))) (occupiedBy v u k)
+      (λ e _. (live-of k e, live-keys-live d (k + 1)))
+      (λ _ _. live-keys-live d (k + 1)) refl
 
   -- as many as are live
   length-more : (d k : ℕ) → k < u → length (liveKeys m (suc d) k) ≡ v k % 2 + length (liveKeys m d (k + 1))

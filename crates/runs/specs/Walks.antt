@@ -2,9 +2,12 @@
 -- the live slots, in rising order.
 use Prim.Native.Nat.{ℕ, zero, suc, _+_, _≤_}
 use mathlib.Core.List.{List, [], _∷_, map}
+use mathlib.Core.Bool.{true}
+use mathlib.Core.Path.{_≡_}
 use Rattle.rules.specs.Choice.{pick}
 use Rattle.rules.specs.Words.{occupiedBy}
 use Rattle.rules.specs.Values.{Kind, gives, ends, refuses, Values}
+use Rattle.rules.specs.Refusals.{liveBy}
 use Rattle.rules.specs.Hop.{hopRule}
 use Rattle.rules.specs.declared.Header.{Header}
 use Rattle.rules.specs.declared.Key.{Key}
@@ -27,7 +30,8 @@ onward walkFrom a gives = visiting (a .key) (walkFrom (a .cursor))
 onward walkFrom a ends = ended a
 onward walkFrom a refuses = ended a
 
--- from cursor c, at most d visits; the step after them is still asked for its answer
+-- from cursor c, at most d visits; the step after them is still asked for its answer. A hop step changes no word, so each is asked
+-- of the same tables
 unfoldable pub walk : List ℕ → List ℕ → Header → ℕ → ℕ → Walk
 walk l r hd zero c = ended (hopRule l r hd c .answer)
 walk l r hd (suc d) c = let a = hopRule l r hd c .answer in onward (walk l r hd d) a (a .kind)
@@ -49,3 +53,8 @@ AscendingFrom n (k ∷ ks) = (n ≤ k .index) × AscendingFrom (k .index + 1) ks
 
 abbrev pub Ascending : List Key → Type 0
 Ascending ks = AscendingFrom 0 ks
+
+-- every key is live
+abbrev pub AllLive : Machine → List Key → Type 0
+AllLive m [] = Unit {0}
+AllLive m (k ∷ ks) = (liveBy (m .versions) (m .used) k ≡ true) × AllLive m ks
