@@ -2,12 +2,14 @@
 pub use access::look;
 pub use access::look_mut;
 pub use access::replace;
+pub use clear::clear;
 pub use drain_step::drain_step;
 pub use hop_step::hop_step;
 pub use insert::insert;
 pub use rebuild::rebuild;
 pub use refusals::key_number;
 pub use remove::remove;
+pub use retain::retain;
 pub use rules::BROKEN_STREAM;
 pub use rules::ClearAnswer;
 pub use rules::Cleared;

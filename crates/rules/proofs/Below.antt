@@ -30,7 +30,7 @@ some-found t (suc n) i h e = at (decLt i n) (λ j. some-found t n i j e)
     at (yes j) found = rw (found j)
     at (no j) found = let last : i ≡ n = omega arith in either-last (someBelow n t) (t n) (rw last at e)
 
-one-most : (t : Bool) → one-if t ≤ 1
+pub one-most : (t : Bool) → one-if t ≤ 1
 one-most true = omega arith
 one-most false = omega arith
 

@@ -23,3 +23,7 @@ both-true false b e = absurd (eqb-false 0 1 refl (cc))
 
 pub both-false : (a b : Bool) → both a b ≡ false → a ≡ true → b ≡ false
 both-false a b e h = rw h at e
+
+pub both-if : (a b : Bool) → (a ≡ true → b ≡ false) → both a b ≡ false
+both-if true b h = h refl
+both-if false b h = refl

@@ -1,9 +1,13 @@
--- Laws of the rules.
+-- Laws of the rules, each file over those above it.
+--
+-- Choosing, testing and counting; chains of refusals; headers.
 pub mod Choice
 pub mod Below
 pub mod Refusals
 pub mod Headers
+-- What the tests tell where they passed: shape, a slot, the links that are followed; full; rebuild's; and a call that answers by a number.
 pub mod Shape
+pub mod SlotTests
 pub mod Links
 pub mod Full
 pub mod Rebuild
@@ -12,7 +16,9 @@ pub mod RemoveSteps
 pub mod Outcomes
 pub mod Check
 pub mod Access
+-- No two outcomes meet one promise.
 pub mod Settled
+-- Slots from used upward are never read, and nothing is written there: what agreement below a bound is, then call by call.
 pub mod Rows
 pub mod Agree
 pub mod Kept
@@ -25,4 +31,5 @@ pub mod CheckReads
 pub mod ClearReads
 pub mod RetainReads
 pub mod RebuildReads
+-- The bench.
 mod Bench

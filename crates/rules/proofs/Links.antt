@@ -6,8 +6,7 @@ use mathlib.Core.Bool.{true, false, not}
 use mathlib.Core.Path.{_≡_, ap}
 use native.Mathlib.Omega.{arith}
 use lib.ListN.{length}
-use lib.Dec.{ltb, eqb}
-use borrow.Author.Tests.{eqb-true, eqb-false, ltb-true, ltb-false, not-false, eq-eqb, ne-eqb, lt-ltb, le-ltb}
+use borrow.Author.Tests.{eqb-true, eqb-false, ltb-true, ltb-false, not-false, eq-eqb, ne-eqb}
 use Rattle.rules.specs.Choice.{both}
 use Rattle.rules.specs.Words.{rowWords, lentOf, versionAt, nextAt, prevAt, otherEndAt, vacantAt, occupiedAt}
 use Rattle.rules.specs.Refusals.{astray}
@@ -16,7 +15,8 @@ use Rattle.rules.specs.Remove.{apartNumber, leftNumber, rightNumber, rem
 use Rattle.rules.specs.declared.Header.{Header}
 use Rattle.rules.specs.declared.steps.InsertLinks.{InsertLinks}
 use Rattle.rules.specs.declared.steps.Beside.{Beside}
-use Rattle.rules.proofs.Choice.{both-true, both-false}
+use Rattle.rules.proofs.Choice.{both-false}
+use Rattle.rules.proofs.SlotTests.{vacant-yes, vacant-no, vacant-is, occupied-no, occupied-is, occupied-not}
 use Rattle.rules.proofs.Refusals.{passed}
 use Rattle.rules.proofs.Shape.{Shaped, side-entered}
 
@@ -31,42 +31,37 @@ pub record Occupied (l : List ℕ) (used i : ℕ) : Type 0 where
   pub below : i < used
   pub odd : versionAt l used i % 2 ≡ 1
 
-in-use : (i used v n : ℕ) → both (ltb i used) (eqb v n) ≡ true → (i < used) × (v ≡ n)
-in-use i used v n e =
-    let f = both-true _ _ e in
-    (ltb-true i used (f .0), eqb-true v n (f .1))
-
 pub vacant : (l : List ℕ) (used i : ℕ) → vacantAt l used i ≡ true → Vacant l used i
 unfolding vacantAt
 vacant l used i e =
-    let f = in-use i used _ _ e in
+    let f = vacant-is (versionAt l used) used i e in
     record { test = e; below = f .0; even = f .1 }
 
 pub occupied : (l : List ℕ) (used i : ℕ) → occupiedAt l used i ≡ true → Occupied l used i
 unfolding occupiedAt
 occupied l used i e =
-    let f = in-use i used _ _ e in
+    let f = occupied-is (versionAt l used) used i e in
     record { test = e; below = f .0; odd = f .1 }
 
 -- a slot in use is one of the two, and one from used upward is neither
 pub else-vacant : (l : List ℕ) (used i : ℕ) → i < used → occupiedAt l used i ≡ false → Vacant l used i
 unfolding vacantAt occupiedAt
 else-vacant l used i h e =
-    let odd : versionAt l used i % 2 ≡ 1 → ⊥ = eqb-false _ _ (both-false _ _ e (lt-ltb _ _ h)) in
-    let even : versionAt l used i % 2 ≡ 0 = omega (arith, odd) in
-    record { test = simp (lt-ltb _ _ h, even); below = h; even = even }
+    let even = occupied-not (versionAt l used) used i e h in
+    record { test = vacant-yes (versionAt l used) used i h even; below = h; even = even }
 
 pub not-vacant : (l : List ℕ) (used i : ℕ) → Occupied l used i → vacantAt l used i ≡ false
 unfolding vacantAt
-not-vacant l used i o = simp (lt-ltb _ _ (o .below), o .odd)
+not-vacant l used i o = vacant-no (versionAt l used) used i (λ _. o .odd)
 
 pub not-occupied : (l : List ℕ) (used i : ℕ) → Vacant l used i → occupiedAt l used i ≡ false
 unfolding occupiedAt
-not-occupied l used i v = simp (lt-ltb _ _ (v .below), v .even)
+not-occupied l used i v = occupied-no (versionAt l used) used i (λ _. v .even)
 
 pub past-used : (l : List ℕ) (used i : ℕ) → used ≤ i → (vacantAt l used i ≡ false) × (occupiedAt l used i ≡ false)
 unfolding vacantAt occupiedAt
-past-used l used i h = (simp (le-ltb _ _ h), simp (le-ltb _ _ h))
+past-used l used i h =
+    (vacant-no (versionAt l used) used i (λ q. absurd (omega arith)), occupied-no (versionAt l used) used i (λ q. absurd (omega arith)))
 
 -- a link that did not go astray
 pub followed : (l : List ℕ) (used i : ℕ) → astray l used i ≡ false → Vacant l used i

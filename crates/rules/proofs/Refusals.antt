@@ -1,7 +1,8 @@
--- What a chain of refusals tells where it gave no number, and that a number once given stays. Assumes nothing.
+-- What a chain of refusals tells where it gave no number; that a number once given stays, and a test that fails gives none.
+-- Assumes nothing.
 use Prim.Native.Nat.{ℕ, _<_}
 use mathlib.Core.Bool.{Bool, false}
-use mathlib.Core.Path.{_≡_, refl}
+use mathlib.Core.Path.{_≡_, refl, sym}
 use native.Mathlib.Omega.{arith}
 use lib.Dec.{eqb}
 use borrow.Author.Tests.{ne-eqb, eqb-true, eqb-false}
@@ -25,3 +26,9 @@ passed k t n p e =
 pub stays : (k : ℕ) (t : Bool) (n : ℕ) → (k ≡ 0 → ⊥) → k ▸ (t, n) ≡ k
 unfolding _▸_
 stays k t n h = simp (ne-eqb k 0 h)
+
+-- a test of a chain that does not hold leaves the number
+pub skipped : (n : ℕ) (t : Bool) (k : ℕ) → t ≡ false → (n ▸ (t, k)) ≡ n
+unfolding _▸_
+skipped n t k e =
+    simp e (by-test (λ (b : Bool). eqb n 0 ≡ b → pick b 0 n ≡ n) (eqb n 0) (λ z q. sym (eqb-true n 0 z)) (λ _ q. refl) refl)

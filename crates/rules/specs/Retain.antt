@@ -12,7 +12,8 @@ use Rattle.rules.specs.Remove.{removeSlot}
 use Rattle.rules.specs.Check.{soundNumber}
 use Rattle.rules.specs.declared.Header.{Header}
 
--- slot i goes if it is live and chosen, and the count grows by 1
+-- slot i goes if it is live and chosen, and the count grows by 1. Past the soundness check no such removal is refused: a theorem of
+-- the theory of runs
 unfoldable pub removeIf : (ℕ → Bool) → ℕ → Outcome → Outcome
 removeIf chosen i o =
     let goes = both (occupiedAt (o .links) (o .header .used) i) (chosen i) in

@@ -4,9 +4,9 @@ use Prim.Native.Nat.{ℕ, zero, suc, _+_, _-_, _≤_, _<_, _%_}
 use native.Mathlib.Decide.{ℕ-discrete, decLt}
 use native.Mathlib.Omega.{arith}
 use Rattle.rules.specs.Runs.{Front, Run}
+use Rattle.rules.proofs.SlotTests.{vacant-yes, vacant-no}
 use Rattle.runs.specs.Machine.{backWithin, backOf}
 use Rattle.runs.proofs.Runs.{par, front-run}
-use Rattle.runs.proofs.Tests.{vacant-yes, vacant-no}
 
 module _ (v : ℕ → ℕ) (u : ℕ) where
   goes-on : (d k : ℕ) → suc k < u → v (suc k) % 2 ≡ 0 → backWithin v u (suc d) k ≡ backWithin v u d (suc k)

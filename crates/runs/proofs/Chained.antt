@@ -11,13 +11,13 @@ use borrow.Author.Tests.{not-false}
 use Rattle.rules.specs.Choice.{pick, times}
 use Rattle.rules.specs.Words.{vacantBy}
 use Rattle.rules.specs.Runs.{Front, Run, isFront, isBack, frontOf}
+use Rattle.rules.proofs.SlotTests.{vacant-no}
 use Rattle.runs.specs.Points.{put}
 use Rattle.runs.specs.Rising.{frontsBelow, rising}
 use Rattle.runs.proofs.Points.{alike-other, put-same, put-other, put2-last, put2-first, put2-other}
 use Rattle.runs.proofs.Segments.{Seg, seg-join, seg-last, seg-end}
 use Rattle.runs.proofs.Runs.{run-same}
 use Rattle.runs.proofs.Linked.{Linked}
-use Rattle.runs.proofs.Tests.{vacant-no}
 use Rattle.runs.proofs.RunTests.{no-choice, front-later, front-no, back-by, back-vacant, back-last, back-yes, front-of}
 use Rattle.runs.proofs.Rising.{rising-none, rising-zero, rising-on, rising-past, rising-once, rising-only, rising-below, rising-run, rising-fronts}
 

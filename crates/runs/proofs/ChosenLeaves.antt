@@ -16,12 +16,12 @@ use Rattle.rules.specs.Refusals.{_▸_, sideNumber}
 use Rattle.rules.specs.Clear.{clearRule}
 use Rattle.rules.specs.Retain.{removeChosen, struckBy, retainRule}
 use Rattle.rules.specs.declared.Header.{Header}
+use Rattle.rules.proofs.SlotTests.{occupied-no}
 use Rattle.runs.specs.Machine.{Machine, liveOf}
 use Rattle.runs.specs.Steps.{Step, stays}
 use Rattle.runs.specs.WholeTable.{removeChosenOn, all, retainOn, clearOn}
 use Rattle.runs.specs.Tables.{Shows}
 use Rattle.runs.proofs.Counts.{rise-even, odd-none}
-use Rattle.runs.proofs.Tests.{occupied-no}
 use Rattle.runs.proofs.ChosenMachine.{goes, left}
 use Rattle.runs.proofs.Drained.{live-is}
 use Rattle.runs.proofs.Chosen.{chosen-does, clear-does, retain-does}

@@ -10,13 +10,13 @@ use borrow.Author.Tests.{lt-ltb, le-ltb}
 use Rattle.rules.specs.Choice.{pick, both}
 use Rattle.rules.specs.Words.{zeroRow, isOdd, rise, occupiedBy}
 use Rattle.rules.proofs.Choice.{by-test, both-true}
+use Rattle.rules.proofs.SlotTests.{occupied-is}
 use Rattle.runs.specs.Points.{put}
 use Rattle.runs.specs.Machine.{Machine, liveOf}
 use Rattle.runs.specs.Steps.{freedOn}
 use Rattle.runs.specs.WholeTable.{Tally, removeIfOn, removeChosenOn}
 use Rattle.runs.proofs.Points.{put-same, put-other}
 use Rattle.runs.proofs.Counts.{rise-even, odd-change}
-use Rattle.runs.proofs.Tests.{occupied-is}
 
 -- a slot that falls vacant takes one off the count
 pub freed-count : (m : Machine) (i : ℕ) → occupiedBy (m .versions) (m .used) i ≡ true → liveOf (freedOn m i) + 1 ≡ liveOf m

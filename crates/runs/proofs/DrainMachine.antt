@@ -10,6 +10,7 @@ use Rattle.rules.specs.Choice.{pick, both}
 use Rattle.rules.specs.Words.{rise, occupiedBy}
 use Rattle.rules.specs.Runs.{Run}
 use Rattle.rules.proofs.Choice.{by-test}
+use Rattle.rules.proofs.SlotTests.{occupied-yes, occupied-no}
 use Rattle.runs.specs.Points.{put}
 use Rattle.runs.specs.Machine.{Machine, liveOf, backOf}
 use Rattle.runs.specs.Steps.{freedOn, lowest, drainOn}
@@ -17,7 +18,6 @@ use Rattle.runs.specs.WholeTable.{removeIfOn, removeChosenOn, all, drain
 use Rattle.runs.proofs.Points.{put-same, put-other}
 use Rattle.runs.proofs.Counts.{rise-even, odd-some, odd-none}
 use Rattle.runs.proofs.Runs.{after-run}
-use Rattle.runs.proofs.Tests.{occupied-yes, occupied-no}
 use Rattle.runs.proofs.Backs.{run-from}
 use Rattle.runs.proofs.ChosenMachine.{freed-count}
 

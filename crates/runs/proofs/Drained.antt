@@ -16,11 +16,11 @@ use Rattle.rules.specs.Drain.{drainRule}
 use Rattle.rules.specs.Clear.{drainTimes}
 use Rattle.rules.specs.declared.Header.{Header}
 use Rattle.rules.proofs.Choice.{by-test}
+use Rattle.rules.proofs.SlotTests.{occupied-yes}
 use Rattle.runs.specs.Machine.{Machine, liveOf, keyOf, backOf, machineOf}
 use Rattle.runs.specs.Steps.{Step, stays, takenOut, lowest, drainOn}
 use Rattle.runs.specs.WholeTable.{drainsOn}
 use Rattle.runs.specs.Tables.{Shows, Does}
-use Rattle.runs.proofs.Tests.{occupied-yes}
 use Rattle.runs.proofs.Sound.{linked}
 use Rattle.runs.proofs.Shown.{entry-passes, unless-does}
 use Rattle.runs.proofs.ChosenMachine.{freed-count}

@@ -16,11 +16,11 @@ use Rattle.rules.specs.Hop.{visit, hopFrom, hopRule}
 use Rattle.rules.specs.declared.Header.{Header}
 use Rattle.rules.proofs.Choice.{by-test}
 use Rattle.rules.proofs.HopSteps.{at-end, at-occupied, inside-run, over-run}
+use Rattle.rules.proofs.SlotTests.{vacant-yes, occupied-yes, occupied-not, occupied-no}
 use Rattle.runs.specs.Machine.{Machine, machineOf, backOf}
 use Rattle.runs.specs.Steps.{hopAnswerOn, hopOn}
 use Rattle.runs.specs.Tables.{Shows, Does}
 use Rattle.runs.proofs.Runs.{after-run}
-use Rattle.runs.proofs.Tests.{vacant-yes, occupied-yes, occupied-not, occupied-no}
 use Rattle.runs.proofs.RunTests.{front-by}
 use Rattle.runs.proofs.Backs.{run-from}
 use Rattle.runs.proofs.Sound.{LinkedTable, linked}

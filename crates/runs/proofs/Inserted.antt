@@ -16,8 +16,8 @@ use Rattle.rules.specs.Runs.{oddCount}
 use Rattle.rules.specs.Insert.{insertLinks, lastSlot, runNumber, takeNumber, insertNumber, takeNew, takeSlot, shortened, insertStep, insertBy, insertRule}
 use Rattle.rules.specs.declared.Header.{Header}
 use Rattle.rules.specs.declared.steps.InsertLinks.{InsertLinks}
-use Rattle.rules.proofs.Choice.{by-test, both-true, both-false}
-use Rattle.rules.proofs.Refusals.{passed}
+use Rattle.rules.proofs.Choice.{by-test, both-true, both-false, both-if}
+use Rattle.rules.proofs.Refusals.{passed, skipped}
 use Rattle.rules.proofs.Shape.{shaped}
 use Rattle.runs.specs.Points.{put}
 use Rattle.runs.specs.Machine.{Machine, first, later, machineOf}
@@ -27,10 +27,9 @@ use Rattle.runs.proofs.Points.{put-same, put-other}
 use Rattle.runs.proofs.Words.{holds-below, version-put, length-link, new-version, length-slot}
 use Rattle.runs.proofs.Rows.{row-below, row-put, row-new, length-row}
 use Rattle.runs.proofs.Counts.{odd-change, odd-more, odd-same}
-use Rattle.runs.proofs.Tests.{both-if}
 use Rattle.runs.proofs.Followed.{insert-h, insert-b, insert-before, insert-n, insert-n-not-h, insert-room}
 use Rattle.runs.proofs.Sound.{LinkedTable, linked}
-use Rattle.runs.proofs.Shown.{skipped, side-alone, still-shaped, shows, unless-does}
+use Rattle.runs.proofs.Shown.{side-alone, still-shaped, shows, unless-does}
 use Rattle.runs.proofs.InsertWords.{place-is, grown-linked, filled-linked, shortened-versions, shortened-length}
 use Rattle.runs.proofs.Removed.{not-astray}
 

@@ -1,4 +1,15 @@
--- Why the theory of runs holds. Each file stands on those above it.
+-- Why the theory of runs holds. Each file stands on those above it. The theorems that others cite, and where they are:
+--   each call is the machine's step and leaves a sound table, and none gives 2    Calls
+--   start and rebuild leave a sound table                                         Begun
+--   the chain of a sound table is unique                                          Sound
+--   the check accepts exactly the sound tables                                    Checked
+--   relinking leaves a sound table, its chain rising; rows of vacant slots        Relinked, ClearedRows
+--   the lowest live slot is other_end(0) + 1                                      Drained
+--   a walk visits exactly the live keys, rising, each once, and ends              Walked
+--   the chosen removed, for any choice: what is left, and how many went           Chosen, ChosenLeaves
+--   clear ends; retain's way is its rule                                          Chosen, Scanned
+--   full is exactly used = lent and nothing but slot 0 vacant                     Full
+--   words inside a run and link words of occupied slots mean nothing              Calls
 --
 -- A table as functions of the slot: one changed slot; the four link words and the rows; how often a slot stands in a list; and a
 -- doubly linked way through slots.
@@ -8,11 +19,10 @@ pub mod Rows
 pub mod Times
 pub mod Segments
 -- Runs, told by the versions alone: every vacant slot is in one; their fronts as a list; how many slots are occupied; the rules' tests
--- of slots and of runs; the back found by scanning; the fronts in rising order.
+-- of runs; the back found by scanning; the fronts in rising order.
 pub mod Runs
 pub mod Fronts
 pub mod Counts
-pub mod Tests
 pub mod RunTests
 pub mod Backs
 pub mod Rising
@@ -50,6 +60,6 @@ pub mod ChosenLeaves
 pub mod Scanned
 pub mod Begun
 pub mod Accessed
--- The theorems in one place: the calls one by one, what is never given, what means nothing; and what full is.
+-- The calls one by one, what is never given, what means nothing; and what full is.
 pub mod Calls
 pub mod Full

@@ -11,13 +11,13 @@ use Rattle.rules.specs.Words.{linkWords, versionAt, nextAt, prevAt, otherEndAt,
 use Rattle.rules.specs.Remove.{beside, setApart, joinRight, joinLeft, joinBoth, freed}
 use Rattle.rules.specs.declared.steps.Beside.{Beside}
 use Rattle.rules.proofs.Choice.{by-test, by-pick}
+use Rattle.rules.proofs.SlotTests.{vacant-is, vacant-not}
 use Rattle.runs.specs.Machine.{renamed, without, frontsAfter}
 use Rattle.runs.proofs.Points.{alike-other}
 use Rattle.runs.proofs.Times.{times-split}
 use Rattle.runs.proofs.Words.{holds, holds-below, words}
 use Rattle.runs.proofs.Runs.{par}
 use Rattle.runs.proofs.Fronts.{fronts-once}
-use Rattle.runs.proofs.Tests.{vacant-is, vacant-not}
 use Rattle.runs.proofs.ChainEdits.{renamed-at, without-at}
 use Rattle.runs.proofs.Joined.{apart, join-right, join-left, join-both}
 use Rattle.runs.proofs.Followed.{remove-t, remove-right-links, remove-left-link}

@@ -17,23 +17,23 @@ use Rattle.rules.specs.Runs.{oddCount}
 use Rattle.rules.specs.Remove.{beside, apartNumber, leftNumber, rightNumber, removeNumber, freed, removeStep, removeBy, removeSlot, removeAt, removeRule}
 use Rattle.rules.specs.declared.Header.{Header}
 use Rattle.rules.specs.declared.Key.{Key}
-use Rattle.rules.proofs.Choice.{both-true}
-use Rattle.rules.proofs.Refusals.{passed}
+use Rattle.rules.proofs.Choice.{both-true, both-if}
+use Rattle.rules.proofs.Refusals.{passed, skipped}
 use Rattle.rules.proofs.Shape.{shaped}
 use Rattle.rules.proofs.RemoveSteps.{removed-slot}
+use Rattle.rules.proofs.SlotTests.{vacant-yes, vacant-is, occupied-is}
 use Rattle.runs.specs.Points.{put}
 use Rattle.runs.specs.Machine.{Machine, keyOf, machineOf, frontsAfter}
 use Rattle.runs.specs.Steps.{keyNumberOn, freedOn, takenOut, removeOn}
 use Rattle.runs.specs.Tables.{Shows, Does}
 use Rattle.runs.proofs.Points.{put-same, put-other}
-use Rattle.runs.proofs.Tests.{both-if, vacant-yes, vacant-is, occupied-is}
 use Rattle.runs.proofs.Words.{holds-below, version-put, length-link}
 use Rattle.runs.proofs.Rows.{row-below, row-put, length-row}
 use Rattle.runs.proofs.Counts.{rise-even, odd-change, odd-some}
 use Rattle.runs.proofs.Followed.{IsVacant, remove-t, remove-right-links, remove-left-link}
 use Rattle.runs.proofs.RemoveWords.{near, near-is, freed-linked, freed-versions, freed-length}
 use Rattle.runs.proofs.Sound.{LinkedTable, linked}
-use Rattle.runs.proofs.Shown.{skipped, entry-passes, still-shaped, shows, unless-does}
+use Rattle.runs.proofs.Shown.{entry-passes, still-shaped, shows, unless-does}
 
 -- a link to a vacant slot in use does not go astray
 pub not-astray : (l : List ℕ) (u k : ℕ) → k < u → versionAt l u k % 2 ≡ 0 → astray l u k ≡ false

@@ -11,17 +11,14 @@ use Rattle.rules.specs.Choice.{pick, both, one-if, alike, times}
 use Rattle.rules.specs.Words.{vacantBy}
 use Rattle.rules.specs.Runs.{Front, Run, isFront}
 use Rattle.rules.proofs.Choice.{by-test, both-true}
+use Rattle.rules.proofs.SlotTests.{vacant-yes}
+use Rattle.rules.proofs.Below.{one-most}
 use Rattle.runs.specs.Rising.{frontsBelow, rising}
 use Rattle.runs.proofs.Points.{alike-same, alike-other, below-next}
 use Rattle.runs.proofs.Times.{times-append}
 use Rattle.runs.proofs.Runs.{par}
-use Rattle.runs.proofs.Tests.{vacant-yes}
 use Rattle.runs.proofs.RunTests.{no-choice, front-later, front-yes, front-is}
 use Rattle.runs.proofs.Fronts.{Fronts, same-times}
-
-at-most-one : (t : Bool) → one-if t ≤ 1
-at-most-one true = omega arith
-at-most-one false = omega arith
 
 then-true : (t : Bool) → 1 ≤ one-if t → t ≡ true
 then-true true h = refl
@@ -50,10 +47,10 @@ module _ (v : ℕ → ℕ) (u : ℕ) where
   rising-past k e = simp e
 
   -- how often x is on the list of those below k
-  times-risen : (x k : ℕ) → times x (frontsBelow v u k) ≡ one-if (both (ltb x k) (listed x))
+  times-rising : (x k : ℕ) → times x (frontsBelow v u k) ≡ one-if (both (ltb x k) (listed x))
   unfolding frontsBelow listed
-  times-risen x zero = simp (le-ltb x 0 (omega arith))
-  times-risen x (suc k) = go (ℕ-discrete x k) (times-risen x k)
+  times-rising x zero = simp (le-ltb x 0 (omega arith))
+  times-rising x (suc k) = go (ℕ-discrete x k) (times-rising x k)
     where
       more : times x (frontsBelow v u (suc k)) ≡ times x (frontsBelow v u k) + pick (listed k) (alike x k) 0
       more =
@@ -72,18 +69,18 @@ module _ (v : ℕ → ℕ) (u : ℕ) where
   -- so each front below k but slot 0 is on it, and nothing else
   pub rising-has : (x k : ℕ) → 0 < x → x < k → Front v u x → times x (frontsBelow v u k) ≡ 1
   unfolding listed
-  rising-has x k p h f = times-risen x k ∙ simp (lt-ltb x k h, front-yes v u x f, lt-ltb 0 x p)
+  rising-has x k p h f = times-rising x k ∙ simp (lt-ltb x k h, front-yes v u x f, lt-ltb 0 x p)
 
   pub rising-only : (x k : ℕ) → 1 ≤ times x (frontsBelow v u k) → (0 < x) × (x < k) × Front v u x
   unfolding listed
   rising-only x k h =
-      let a = both-true (ltb x k) (listed x) (then-true (both (ltb x k) (listed x)) (omega (arith, times-risen x k))) in
+      let a = both-true (ltb x k) (listed x) (then-true (both (ltb x k) (listed x)) (omega (arith, times-rising x k))) in
       let b = both-true (isFront v u x) (ltb 0 x) (a .1) in
       (ltb-true 0 x (b .1), ltb-true x k (a .0), front-is v u x (b .0))
 
   risen-no-zero : (k : ℕ) → times 0 (frontsBelow v u k) ≡ 0
   unfolding listed
-  risen-no-zero k = times-risen 0 k ∙ simp (no-choice (isFront v u 0) false, no-choice (ltb 0 k) false)
+  risen-no-zero k = times-rising 0 k ∙ simp (no-choice (isFront v u 0) false, no-choice (ltb 0 k) false)
 
   -- with slot 0 ahead of them
   pub rising-once : (k x : ℕ) → times x (0 ∷ frontsBelow v u k) ≤ 1
@@ -91,7 +88,7 @@ module _ (v : ℕ → ℕ) (u : ℕ) where
     where
       go : Dec (x ≡ 0) → times x (0 ∷ frontsBelow v u k) ≤ 1
       go (yes e) = omega (arith, alike-same x 0 e, same-times x 0 (frontsBelow v u k) e, risen-no-zero k)
-      go (no n) = omega (arith, alike-other x 0 n, times-risen x k, at-most-one (both (ltb x k) (listed x)))
+      go (no n) = omega (arith, alike-other x 0 n, times-rising x k, one-most (both (ltb x k) (listed x)))
 
   pub rising-below : (k x : ℕ) → 0 < k → 1 ≤ times x (0 ∷ frontsBelow v u k) → x < k
   rising-below k x p h = go (ℕ-discrete x 0)

@@ -10,8 +10,8 @@ use Rattle.rules.specs.Choice.{pick, both, allBelow}
 use Rattle.rules.specs.Words.{vacantBy}
 use Rattle.rules.specs.Runs.{Front, Run, pastFront, isFront, isBack, frontOf}
 use Rattle.rules.proofs.Choice.{by-test, both-true}
+use Rattle.rules.proofs.SlotTests.{vacant-yes, vacant-no, vacant-is, vacant-not}
 use Rattle.runs.proofs.Runs.{par, back-run}
-use Rattle.runs.proofs.Tests.{vacant-yes, vacant-no, vacant-is, vacant-not}
 
 pub is-true : (t : Bool) → (t ≡ false → ⊥) → t ≡ true
 is-true t h = by-test (λ (x : Bool). x ≡ true) t (λ _. refl) (λ e. absurd (h e))

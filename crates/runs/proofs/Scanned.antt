@@ -19,6 +19,7 @@ use Rattle.rules.proofs.Refusals.{passed}
 use Rattle.rules.proofs.Headers.{risen}
 use Rattle.rules.proofs.Shape.{shaped}
 use Rattle.rules.proofs.RemoveSteps.{removed-slot}
+use Rattle.rules.proofs.SlotTests.{vacant-is, vacant-not, occupied-yes, occupied-no}
 use Rattle.runs.specs.Machine.{Machine, liveOf, backOf, machineOf}
 use Rattle.runs.specs.Steps.{lowest}
 use Rattle.runs.specs.WholeTable.{removeChosenOn}
@@ -26,7 +27,6 @@ use Rattle.runs.specs.Tables.{Shows}
 use Rattle.runs.specs.Scans.{Scan, nextSlot, strikeOut, scanOne, scanStart, scans}
 use Rattle.runs.proofs.Counts.{odd-more, odd-none, odd-rises}
 use Rattle.runs.proofs.Runs.{par, after-run}
-use Rattle.runs.proofs.Tests.{vacant-is, vacant-not, occupied-yes, occupied-no}
 use Rattle.runs.proofs.Backs.{run-from}
 use Rattle.runs.proofs.Sound.{LinkedTable, linked}
 use Rattle.runs.proofs.ChosenMachine.{left}

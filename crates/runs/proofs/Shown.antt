@@ -10,22 +10,16 @@ use borrow.Author.Tests.{ne-eqb, le-ltb, eqb-true}
 use Rattle.rules.specs.Choice.{pick}
 use Rattle.rules.specs.Words.{lentOf, linkWords, versionAt, isOdd}
 use Rattle.rules.specs.Values.{Outcome, refused, refusal, unless}
-use Rattle.rules.specs.Refusals.{_▸_, passes, damaged, lentNumber, headerNumber, shapeNumber, sideNumber, zeroNumber, entryNumber, sideEntryNumber}
+use Rattle.rules.specs.Refusals.{passes, damaged, lentNumber, headerNumber, shapeNumber, sideNumber, zeroNumber, entryNumber, sideEntryNumber}
 use Rattle.rules.specs.Runs.{oddCount}
 use Rattle.rules.specs.declared.Header.{Header}
 use Rattle.rules.proofs.Choice.{by-test}
-use Rattle.rules.proofs.Refusals.{passed}
+use Rattle.rules.proofs.Refusals.{passed, skipped}
 use Rattle.rules.proofs.Shape.{shaped}
 use Rattle.runs.specs.Machine.{Machine, machineOf, headerOf}
 use Rattle.runs.specs.Steps.{Step, stays, stepUnless}
 use Rattle.runs.specs.Tables.{Shows, Does}
 use Rattle.runs.proofs.Sound.{LinkedTable, sound, sound-chain, one-chain}
-
--- a test of a chain that does not hold leaves the number
-pub skipped : (n : ℕ) (t : Bool) (k : ℕ) → t ≡ false → (n ▸ (t, k)) ≡ n
-unfolding _▸_
-skipped n t k e =
-    simp e (by-test (λ (b : Bool). eqb n 0 ≡ b → pick b 0 n ≡ n) (eqb n 0) (λ z q. sym (eqb-true n 0 z)) (λ _ q. refl) refl)
 
 module _ (l r : List ℕ) (hd : Header) (shape : shapeNumber l r hd ≡ 0) (even : versionAt l (hd .used) 0 % 2 ≡ 0) where
   not-odd : isOdd (versionAt l (hd .used) 0) ≡ false

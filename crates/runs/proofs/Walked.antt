@@ -16,7 +16,8 @@ use Rattle.rules.specs.Refusals.{liveBy}
 use Rattle.rules.specs.Runs.{Run, pastFront, oddCount}
 use Rattle.rules.specs.declared.Header.{Header}
 use Rattle.rules.specs.declared.Key.{Key}
-use Rattle.rules.proofs.Choice.{by-test}
+use Rattle.rules.proofs.Choice.{by-test, both-if}
+use Rattle.rules.proofs.SlotTests.{vacant-yes, vacant-no, occupied-yes, occupied-no, occupied-is}
 use Rattle.runs.specs.Machine.{Machine, liveOf, keyOf, backOf}
 use Rattle.runs.specs.Steps.{visitOn, hopAnswerOn}
 use Rattle.runs.specs.Tables.{Shows}
@@ -24,7 +25,6 @@ use Rattle.runs.specs.Walks.{Walk, ended, visiting, onward, walk, liveKe
 use Rattle.runs.proofs.Points.{alike-same, alike-other}
 use Rattle.runs.proofs.Counts.{odd-more, odd-none-yet}
 use Rattle.runs.proofs.Runs.{par, after-run}
-use Rattle.runs.proofs.Tests.{both-if, vacant-yes, vacant-no, occupied-yes, occupied-no, occupied-is}
 use Rattle.runs.proofs.RunTests.{is-false, front-by}
 use Rattle.runs.proofs.Backs.{run-from}
 use Rattle.runs.proofs.Hopped.{hop-does}

@@ -13,7 +13,8 @@ pub record Scan : Type 0 where
   pub slot : ℕ
   pub outcome : Outcome
 
--- the slot to look at after slot i: the one after it, or, where that is vacant, the one after its run
+-- the slot to look at after slot i: the one after it, or, where that is vacant, the one after its run. One more is taken as in 32
+-- bits, so that it has a meaning for any word; of a slot in use it is i + 1
 unfoldable pub nextSlot : List ℕ → ℕ → ℕ → ℕ
 nextSlot l used i = pick (vacantAt l used (rise i)) (rise (otherEndAt l used (rise i))) (rise i)
 

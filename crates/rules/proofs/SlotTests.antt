@@ -1,17 +1,12 @@
 -- The tests of a slot, by the facts that they stand for. Assumes nothing.
-use mathlib.Core.Path.{_≡_, refl}
-use mathlib.Core.Bool.{Bool, true, false}
+use mathlib.Core.Path.{_≡_}
+use mathlib.Core.Bool.{true, false}
 use Prim.Native.Nat.{ℕ, _-_, _<_, _%_}
 use native.Mathlib.Omega.{arith}
 use lib.Dec.{ltb, eqb}
 use borrow.Author.Tests.{eq-eqb, ne-eqb, lt-ltb, eqb-true, eqb-false, ltb-true}
-use Rattle.rules.specs.Choice.{both}
 use Rattle.rules.specs.Words.{isOdd, isEven, vacantBy, occupiedBy}
-use Rattle.rules.proofs.Choice.{both-true, both-false}
-
-pub both-if : (a b : Bool) → (a ≡ true → b ≡ false) → both a b ≡ false
-both-if true b h = h refl
-both-if false b h = refl
+use Rattle.rules.proofs.Choice.{both-true, both-false, both-if}
 
 module _ (v : ℕ → ℕ) (u i : ℕ) where
   pub vacant-yes : i < u → v i % 2 ≡ 0 → vacantBy v u i ≡ true
