@@ -102,7 +102,9 @@ module _ (l r : List ℕ) (ok : lentNumber (length l) (length r) ≡ 0) where
   start-shows : Shows l′ r′ fresh (startOn (lentOf l) .machine)
   start-shows =
       subst (Shows l′ r′ fresh) (cc (start-versions, start-rows, length-slot l 0 0))
-      (shows l′ r′ fresh [] (fits-shape l′ r′ fresh (same-lent l r l′ r′ ok (length-slot l 0 0) (length-row r 0 zeroRow)) (omega arith) (omega (arith, t .some, length-slot l 0 0)) (omega arith))
+      (shows l′ r′ fresh []
+      (fits-shape l′ r′ fresh (same-lent l r l′ r′ ok (length-slot l 0 0) (length-row r 0 zeroRow)) (omega arith)
+      (omega (arith, t .some, length-slot l 0 0)) (omega arith))
       start-linked (sym (odd-none (versionAt l′ 1) 1 (λ k _. start-even k))))
 
 pub start-does : (l r : List ℕ) (hd : Header) → lentNumber (length l) (length r) ≡ 0 → Does (startRule l r hd) (startOn (lentOf l))

@@ -44,7 +44,8 @@ module _ (l r : List ℕ) (hd : Header) (m : Machine) (s : Shows l r hd m) where
     pub chosen-used : o .header .used ≡ hd .used
     chosen-used = ap (λ (x : Machine). x .used) (shown .same) ∙ left chosen m n .used ∙ ap (λ (x : Machine). x .used) (sym (s .same))
 
-    pub chosen-version : (i : ℕ) → versionAt (o .links) (o .header .used) i ≡ pick (went l hd chosen n i) (rise (versionAt l (hd .used) i)) (versionAt l (hd .used) i)
+    pub chosen-version : (i : ℕ) → versionAt (o .links) (o .header .used) i ≡
+        pick (went l hd chosen n i) (rise (versionAt l (hd .used) i)) (versionAt l (hd .used) i)
     chosen-version i =
         ap (λ (x : Machine). x .versions i) (shown .same) ∙ left chosen m n .versions i
         ∙ ap (λ (t : Bool). pick t (rise (m .versions i)) (m .versions i)) (went-is i)
@@ -72,7 +73,8 @@ module _ (l r : List ℕ) (hd : Header) (m : Machine) (s : Shows l r hd m) where
   retain-count bytes e =
       let d = retain-does l r hd m s bytes in
       let u : length bytes ≡ m .used = e ∙ ap (λ (x : Machine). x .used) (s .same) in
-      let t : retainOn m bytes ≡ stays (removeChosenOn (struckBy bytes) (m .used) m .machine) (counted (removeChosenOn (struckBy bytes) (m .used) m .count)) = simp (eq-eqb _ _ u) in
+      let a = removeChosenOn (struckBy bytes) (m .used) m in
+      let t : retainOn m bytes ≡ stays (a .machine) (counted (a .count)) = simp (eq-eqb _ _ u) in
       omega (
         arith,
         ap (λ (v : Values). v .count) (d .answer) ∙ ap (λ (x : Step). x .answer .count) t,
@@ -89,7 +91,8 @@ module _ (l r : List ℕ) (hd : Header) (m : Machine) (s : Shows l r hd m) where
       ap (λ (x : Machine). x .versions i) (clear-does l r hd m s .shows .same) ∙ left all m (m .used) .versions i
       ∙ ap (λ (x : Machine). pick (both (ltb i (x .used)) (goes all x i)) (rise (x .versions i)) (x .versions i)) (sym (s .same))
 
-  pub clear-row : (i : ℕ) → rowAt (clearRule l r hd .rows) (clearRule l r hd .header .used) i ≡ pick (went l hd all (hd .used) i) zeroRow (rowAt r (hd .used) i)
+  pub clear-row : (i : ℕ) → rowAt (clearRule l r hd .rows) (clearRule l r hd .header .used) i ≡
+      pick (went l hd all (hd .used) i) zeroRow (rowAt r (hd .used) i)
   unfolding clearOn
   clear-row i =
       ap (λ (x : Machine). x .rows i) (clear-does l r hd m s .shows .same) ∙ left all m (m .used) .rows i
@@ -100,13 +103,18 @@ module _ (l r : List ℕ) (hd : Header) (m : Machine) (s : Shows l r hd m) where
   unfolding clearOn
   clear-empties =
       live-is _ _ _ _ (clear-does l r hd m s .shows)
-      ∙ odd-none (removeChosenOn all (m .used) m .machine .versions) (removeChosenOn all (m .used) m .machine .used) (λ i h. even i (omega (arith, left all m (m .used) .used)) (ℕ-discrete (m .versions i % 2) 1))
+      ∙ odd-none (emptied .versions) (emptied .used) (λ i h. even i (omega (arith, left all m (m .used) .used)) (ℕ-discrete (m .versions i % 2) 1))
     where
-      even : (i : ℕ) → i < m .used → Dec (m .versions i % 2 ≡ 1) → removeChosenOn all (m .used) m .machine .versions i % 2 ≡ 0
+      emptied : Machine
+      emptied = removeChosenOn all (m .used) m .machine
+
+      even : (i : ℕ) → i < m .used → Dec (m .versions i % 2 ≡ 1) → emptied .versions i % 2 ≡ 0
       even i h (yes e) =
-          ap (λ (x : ℕ). x % 2) (left all m (m .used) .versions i ∙ simp (lt-ltb i (m .used) h, eq-eqb (m .versions i % 2) 1 e)) ∙ rise-even (m .versions i) e
+          let gone : emptied .versions i ≡ rise (m .versions i) =
+          left all m (m .used) .versions i ∙ simp (lt-ltb i (m .used) h, eq-eqb (m .versions i % 2) 1 e) in
+          ap (λ (x : ℕ). x % 2) gone ∙ rise-even (m .versions i) e
       even i h (no n) =
-          let kept : removeChosenOn all (m .used) m .machine .versions i ≡ m .versions i =
+          let kept : emptied .versions i ≡ m .versions i =
           left all m (m .used) .versions i ∙ simp (occupied-no (m .versions) (m .used) i (λ _. omega arith)) (same (ltb i (m .used))) in
           ap (λ (x : ℕ). x % 2) kept ∙ omega arith
         where

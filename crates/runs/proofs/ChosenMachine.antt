@@ -80,7 +80,8 @@ module _ (chosen : ℕ → Bool) (m : Machine) where
           ap (λ (x : ℕ). both (ltb n (s .machine .used)) (isOdd x)) same-version ∙ ap (λ (x : ℕ). both (ltb n x) (isOdd (m .versions n))) (k .used)
           ∙ both-true (occupiedBy (m .versions) (m .used) n) (chosen n) e .0
 
-      ver : (i : ℕ) → Dec (i ≡ n) → put (s .machine .versions) n (rise (s .machine .versions n)) i ≡ pick (both (ltb i (suc n)) (goes i)) (rise (m .versions i)) (m .versions i)
+      ver : (i : ℕ) → Dec (i ≡ n) → put (s .machine .versions) n (rise (s .machine .versions n)) i ≡
+          pick (both (ltb i (suc n)) (goes i)) (rise (m .versions i)) (m .versions i)
       ver i (yes t) =
           put-same (s .machine .versions) n (rise (s .machine .versions n)) i t ∙ ap rise same-version
           ∙ sym (looked-at n i (rise (m .versions i)) (m .versions i) t ∙ simp (at-slot i n t ∙ e) (ap (λ (x : ℕ). rise (m .versions x)) t))
@@ -116,16 +117,18 @@ module _ (chosen : ℕ → Bool) (m : Machine) where
         lent = refl;
         count = omega arith;
       }
-  left (suc n) = go (left n)
+  left (suc n) = go (removeChosenOn chosen n m) (left n)
     where
-      go : Left n (removeChosenOn chosen n m) → Left (suc n) (removeChosenOn chosen (suc n) m)
-      go k =
-          let s = removeChosenOn chosen n m in
-          subst (λ (t : Bool). Left (suc n) (pick t (record { count = s .count + 1; machine = freedOn (s .machine) n }) s)) (sym (test k))
-          (by-test (λ (t : Bool). Left (suc n) (pick t (record { count = s .count + 1; machine = freedOn (s .machine) n }) s)) (goes n)
-          (left-gone n s k) (left-kept n s k))
-        where
-          test : Left n (removeChosenOn chosen n m) → both (occupiedBy (removeChosenOn chosen n m .machine .versions) (removeChosenOn chosen n m .machine .used) n) (chosen n) ≡ goes n
-          test k =
-              ap (λ (x : ℕ). both (both (ltb n (removeChosenOn chosen n m .machine .used)) (isOdd x)) (chosen n)) (k .versions n ∙ not-yet n n (rise (m .versions n)) (m .versions n) (omega arith))
-              ∙ ap (λ (x : ℕ). both (both (ltb n x) (isOdd (m .versions n))) (chosen n)) (k .used)
+      gone : Tally → Tally
+      gone s = record { count = s .count + 1; machine = freedOn (s .machine) n }
+
+      same-test : (s : Tally) → Left n s → both (occupiedBy (s .machine .versions) (s .machine .used) n) (chosen n) ≡ goes n
+      same-test s k =
+          let version : s .machine .versions n ≡ m .versions n = k .versions n ∙ not-yet n n (rise (m .versions n)) (m .versions n) (omega arith) in
+          ap (λ (x : ℕ). both (both (ltb n (s .machine .used)) (isOdd x)) (chosen n)) version
+          ∙ ap (λ (x : ℕ). both (both (ltb n x) (isOdd (m .versions n))) (chosen n)) (k .used)
+
+      go : (s : Tally) → Left n s → Left (suc n) (removeIfOn chosen n s)
+      go s k =
+          subst (λ (t : Bool). Left (suc n) (pick t (gone s) s)) (sym (same-test s k))
+          (by-test (λ (t : Bool). Left (suc n) (pick t (gone s) s)) (goes n) (left-gone n s k) (left-kept n s k))

@@ -88,7 +88,8 @@ gone-too m z h i l = go (ℕ-discrete i (lowest m))
         ap (λ (x : ℕ). x % 2) (put-other (m .versions) (lowest m) (rise (m .versions (lowest m))) i t) ∙ none-lower m z i (omega arith)
 
 -- the lowest live slot goes first
-lowest-first : (m : Machine) → Headed m → 1 ≤ liveOf m → (d n : ℕ) → n ≡ suc (lowest m) + d → removeChosenOn all n m .machine ≡ removeChosenOn all n (freedOn m (lowest m)) .machine
+lowest-first : (m : Machine) → Headed m → 1 ≤ liveOf m → (d n : ℕ) → n ≡ suc (lowest m) + d →
+    removeChosenOn all n m .machine ≡ removeChosenOn all n (freedOn m (lowest m)) .machine
 lowest-first m z h zero n e =
     let f : n ≡ suc (lowest m) = omega arith in
     let w = lowest-live m z h in

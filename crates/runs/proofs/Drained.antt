@@ -56,19 +56,27 @@ module _ (l r : List ℕ) (hd : Header) (m : Machine) (s : Shows l r hd m) where
       let w = lowest-live n z (omega (arith, s .sound .live-count .counted)) in
       rw t (w .0, w .1, none-lower n z)
 
+  abbrev taken : Outcome
+  taken = removeAt l r hd (otherEndAt l (hd .used) 0 + 1)
+
+  abbrev takenOn : Step
+  takenOn = takenOut m (keyOf m (lowest m))
+
+  taken-does : liveOf m ≢ 0 → Does taken takenOn
+  taken-does some =
+      let w = lowest-live m (headed l r hd m s) (omega (arith, some)) in
+      subst (λ (q : ℕ). Does (removeAt l r hd q) takenOn) (sym lowest-is)
+      (remove-at-does l r hd m s (lowest m) (occupied-yes (m .versions) (m .used) (lowest m) (w .0) (w .1)))
+
   pub drain-does : Does (drainRule l r hd) (drainOn m)
   unfolding drainRule drainOn
   drain-does =
-      unless-does l r hd m s (entryNumber l r hd) 0 (entry-passes l r hd (s .shaped) (s .sound .zero-even .even))
-      (pick (eqb (hd .live) 0) (plain done hd l r) (removeAt l r hd (otherEndAt l (hd .used) 0 + 1))) (drainOn m)
-      (λ _. subst (λ (n : ℕ). Does (pick (eqb (hd .live) 0) (plain done hd l r) (removeAt l r hd (otherEndAt l (hd .used) 0 + 1))) (pick (eqb n 0) (stays m done) (takenOut m (keyOf m (lowest m))))) live-is
-      (by-test (λ (t : Bool). Does (pick t (plain done hd l r) (removeAt l r hd (otherEndAt l (hd .used) 0 + 1))) (pick t (stays m done) (takenOut m (keyOf m (lowest m))))) (eqb (hd .live) 0)
+      unless-does l r hd m s (entryNumber l r hd) 0 (entry-passes l r hd (s .shaped) (s .sound .zero-even .even)) _ (drainOn m)
+      (λ _.
+      subst (λ (n : ℕ). Does (pick (eqb n 0) (plain done hd l r) taken) (drainOn m)) (sym live-is)
+      (by-test (λ (t : Bool). Does (pick t (plain done hd l r) taken) (pick t (stays m done) takenOn)) (eqb (liveOf m) 0)
       (λ _. record { answer = refl; row = refl; shows = s })
-      (λ z.
-      let some : hd .live ≢ 0 = eqb-false (hd .live) 0 z in
-      let w = lowest-live m (headed l r hd m s) (omega (arith, some, live-is)) in
-      subst (λ (q : ℕ). Does (removeAt l r hd q) (takenOut m (keyOf m (lowest m)))) (sym lowest-is)
-      (remove-at-does l r hd m s (lowest m) (occupied-yes (m .versions) (m .used) (lowest m) (w .0) (w .1))))))
+      (λ z. taken-does (eqb-false (liveOf m) 0 z))))
 
 -- the drain step to the end: as many steps as rows are live, and one that answers done
 pub drains-do : (n : ℕ) (o : Outcome) (m : Machine) → Shows (o .links) (o .rows) (o .header) m → liveOf m ≡ n →

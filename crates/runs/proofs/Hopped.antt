@@ -1,5 +1,6 @@
 -- The hop step on a sound table is the machine's. Assumes nothing.
 use mathlib.Core.Path.{_≡_, refl, sym, ap, _∙_}
+use mathlib.Core.Logic.{_≢_}
 use mathlib.Core.List.{List}
 use mathlib.Core.Bool.{Bool, true, false}
 use Prim.Native.Nat.{ℕ, _+_, _-_, _≤_, _<_}
@@ -33,27 +34,35 @@ module _ (l r : List ℕ) (hd : Header) (after : List ℕ) (L : LinkedTable l (h
   abbrev m : Machine
   m = machineOf l r hd after
 
+  abbrev back : ℕ
+  back = backOf v (hd .used) c
+
   -- from the front of a run to the slot after its back
-  over : Front v (hd .used) c → pastFront v (hd .used) c ≡ false →
-      hopFrom l hd c ≡ hopAnswerOn m c
+  over : Front v (hd .used) c → pastFront v (hd .used) c ≡ false → hopFrom l hd c ≡ hopAnswerOn m c
   unfolding hopAnswerOn vacantAt occupiedAt
-  over f p = sym (over-run l hd c (backOf v (hd .used) c) back-is (vacant-yes v (hd .used) c (f .below) (f .vacant)) p back-vacant (run .ordered)) ∙ same (ℕ-discrete (backOf v (hd .used) c + 1) (hd .used))
+  over f p =
+      sym (over-run l hd c back back-is (vacant-yes v (hd .used) c (f .below) (f .vacant)) p back-vacant (run .ordered))
+      ∙ same (ℕ-discrete (back + 1) (hd .used))
     where
-      run : Run v (hd .used) c (backOf v (hd .used) c)
+      run : Run v (hd .used) c back
       run = run-from v (hd .used) c f
 
-      back-is : backOf v (hd .used) c ≡ otherEndAt l (hd .used) c
-      back-is = sym (L .ends c (backOf v (hd .used) c) run .0)
+      back-is : back ≡ otherEndAt l (hd .used) c
+      back-is = sym (L .ends c back run .0)
 
-      back-vacant : vacantBy v (hd .used) (backOf v (hd .used) c) ≡ true
-      back-vacant = vacant-yes v (hd .used) (backOf v (hd .used) c) (run .below) (run .vacant (backOf v (hd .used) c) (run .ordered) (omega arith))
+      back-vacant : vacantBy v (hd .used) back ≡ true
+      back-vacant = vacant-yes v (hd .used) back (run .below) (run .vacant back (run .ordered) (omega arith))
 
-      same : Dec (backOf v (hd .used) c + 1 ≡ hd .used) →
-          pick (eqb (backOf v (hd .used) c + 1) (hd .used)) done
-          (pick (occupiedBy v (hd .used) (backOf v (hd .used) c + 1)) (visit l (hd .used) (backOf v (hd .used) c + 1)) (refused damaged))
-          ≡ hopAnswerOn m c
-      same (yes e) = simp (eq-eqb (backOf v (hd .used) c + 1) (hd .used) e, lt-leb (hd .used) c (f .below), occupied-no v (hd .used) c (λ _. f .vacant), p)
-      same (no n) = simp (ne-eqb (backOf v (hd .used) c + 1) (hd .used) n, lt-leb (hd .used) c (f .below), occupied-no v (hd .used) c (λ _. f .vacant), p, occupied-yes v (hd .used) (backOf v (hd .used) c + 1) (omega (arith, run .below)) (after-run v (hd .used) c (backOf v (hd .used) c) run (omega (arith, run .below))))
+      next-occupied : back + 1 ≢ hd .used → occupiedBy v (hd .used) (back + 1) ≡ true
+      next-occupied n =
+          let h : back + 1 < hd .used = omega (arith, run .below, n) in
+          occupied-yes v (hd .used) (back + 1) h (after-run v (hd .used) c back run h)
+
+      same : Dec (back + 1 ≡ hd .used) →
+          pick (eqb (back + 1) (hd .used)) done (pick (occupiedBy v (hd .used) (back + 1)) (visit l (hd .used) (back + 1)) (refused damaged)) ≡ hopAnswerOn m c
+      same (yes e) = simp (eq-eqb (back + 1) (hd .used) e, lt-leb (hd .used) c (f .below), occupied-no v (hd .used) c (λ _. f .vacant), p)
+      same (no n) =
+          simp (ne-eqb (back + 1) (hd .used) n, lt-leb (hd .used) c (f .below), occupied-no v (hd .used) c (λ _. f .vacant), p, next-occupied n)
 
   pub hop-is : hopFrom l hd c ≡ hopAnswerOn m c
   unfolding hopAnswerOn vacantAt occupiedAt
