@@ -1,16 +1,33 @@
 -- Testing and counting below a bound, as a loop that rises by one meets them. Assumes nothing.
 use Prim.Native.Nat.{ℕ, zero, suc, _+_, _≤_, _<_}
 use mathlib.Core.Bool.{Bool, true, false}
-use mathlib.Core.Path.{_≡_, refl}
+use mathlib.Core.Path.{_≡_, refl, subst}
 use native.Mathlib.Decide.{decLt}
 use native.Mathlib.Numerals.{add-one}
 use native.Mathlib.Omega.{arith}
 use Rattle.rules.specs.Choice.{both, either, one-if, allBelow, someBelow, countBelow}
 
--- all so far, and the next one
-pub all-on : (n : ℕ) (t : ℕ → Bool) (a : Bool) → a ≡ allBelow n t → (b : Bool) → b ≡ both a (t n) → b ≡ allBelow (n + 1) t
+-- what holds just past i, and from each number goes on to the next, holds of every number past i
+past : (P : ℕ → Type 0) (i : ℕ) → P (suc i) → ((n : ℕ) → P n → P (suc n)) → (n : ℕ) → i < n → P n
+past P i first on zero h = absurd (omega arith)
+past P i first on (suc n) h = at (decLt i n) (λ j. past P i first on n j)
+  where
+    at : Dec (i < n) → (i < n → P n) → P (suc n)
+    at (yes j) before = on n (before j)
+    at (no j) before = let last : i ≡ n = omega arith in subst (λ (k : ℕ). P (suc k)) last first
+
+-- all so far, and the next one; what fails of one number below fails of all
+pub all-next : (n : ℕ) (t : ℕ → Bool) → allBelow (n + 1) t ≡ both (allBelow n t) (t n)
 unfolding allBelow
-all-on n t a e b d = rw (add-one, d, e)
+all-next n t = rw add-one
+
+both-last : (a b : Bool) → b ≡ false → both a b ≡ false
+both-last true b e = e
+both-last false b e = refl
+
+pub all-missed : (t : ℕ → Bool) (n i : ℕ) → i < n → t i ≡ false → allBelow n t ≡ false
+unfolding allBelow
+all-missed t n i h e = past (λ (k : ℕ). allBelow k t ≡ false) i (both-last (allBelow i t) (t i) e) (λ k so. rw so) n h
 
 -- some so far, or the next one; what holds of one number below holds of some
 pub some-next : (n : ℕ) (t : ℕ → Bool) → someBelow (n + 1) t ≡ either (someBelow n t) (t n)
@@ -23,12 +40,7 @@ either-last false b e = e
 
 pub some-found : (t : ℕ → Bool) (n i : ℕ) → i < n → t i ≡ true → someBelow n t ≡ true
 unfolding someBelow
-some-found t zero i h e = absurd (omega arith)
-some-found t (suc n) i h e = at (decLt i n) (λ j. some-found t n i j e)
-  where
-    at : Dec (i < n) → (i < n → someBelow n t ≡ true) → either (someBelow n t) (t n) ≡ true
-    at (yes j) found = rw (found j)
-    at (no j) found = let last : i ≡ n = omega arith in either-last (someBelow n t) (t n) (rw last at e)
+some-found t n i h e = past (λ (k : ℕ). someBelow k t ≡ true) i (either-last (someBelow i t) (t i) e) (λ k so. rw so) n h
 
 pub one-most : (t : Bool) → one-if t ≤ 1
 one-most true = omega arith

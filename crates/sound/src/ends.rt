@@ -13,11 +13,11 @@ use slots::words::vacant;
 fn meet_at(links: &[u32], used: u32, front: u32, i: u32) -> bool
     ensures { λ r. ⌜ r ≡ meetAt (now (links .entry)) used front i ⌝ }
 {
-    let to_back = other_end(links, used, front);
-    let to_front = other_end(links, used, i);
     if !is_back(links, used, i) {
         return true;
     }
+    let to_back = other_end(links, used, front);
+    let to_front = other_end(links, used, i);
     both(to_back == i, to_front == front)
 }
 
@@ -32,13 +32,14 @@ fn front_after(links: &[u32], used: u32, front: u32, i: u32) -> u32
 pub fn ends_meet(links: &[u32], used: u32) -> bool
     ensures { λ r. ⌜ r ≡ endsTest (now (links .entry)) used ⌝ }
 {
-    let mut meet = true;
     let mut front: u32 = 0;
     let mut i: u32 = 0;
     while i < used {
-        meet = both(meet, meet_at(links, used, front, i));
+        if !meet_at(links, used, front, i) {
+            return false;
+        }
         front = front_after(links, used, front, i);
         i += 1;
     }
-    meet
+    true
 }
