@@ -9,6 +9,7 @@ ghost use Rattle.rules.specs.Values.{numbered};
 ghost use Rattle.rules.specs.Rebuild.{rebuildRule};
 pub use clearing::clear_vacant_rows;
 use presence::rebuild_number;
+use refusals::PASSES;
 pub use relinking::relink;
 use rules::Header;
 use rules::Numbered;
@@ -19,13 +20,13 @@ pub fn rebuild(links: &mut [u32], rows: &mut [u32], header: Header, presence: &[
     ensures { λ r. ⌜ numbered r (now (links .exit)) (now (rows .exit)) ≡ rebuildRule (now (links .entry)) (now (rows .entry)) header (now (presence .entry)) ⌝ }
 {
     let number = rebuild_number(links, rows, presence);
-    if number != 0 {
+    if number != PASSES {
         return Numbered { number, header };
     }
     let n = presence.len() as u32;
     clear_vacant_rows(links, rows, n);
     Numbered {
-        number: 0,
+        number: PASSES,
         header: relink(links, n),
     }
 }

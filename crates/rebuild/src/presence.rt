@@ -1,11 +1,9 @@
 // The number that rebuild is turned down with: what is lent, then the presence bytes beside the versions.
 ghost use mathlib.Core.Path.{_≡_};
-ghost use mathlib.Core.Bool.{not};
-ghost use Prim.Native.Nat.{_%_};
-ghost use lib.Dec.{ltb, eqb};
-ghost use lib.ListN.{length};
-ghost use Rattle.rules.specs.Choice.{either, someBelow};
-ghost use Rattle.rules.specs.Rebuild.{wrongByte, rebuildNumber};
+ghost use lib.ListN.{getD};
+ghost use Rattle.rules.specs.Choice.{someBelow};
+ghost use Rattle.rules.specs.Rebuild.{wrongBit, wrongByte, rebuildNumber};
+use refusals::PASSES;
 use refusals::lent_number;
 use refusals::or_if;
 use rules::LINK_WORDS;
@@ -14,25 +12,28 @@ use rules::WRONG_PRESENCE;
 use rules::ZERO_OCCUPIED;
 use slots::words::version;
 
-// A presence byte that is not 0 or 1, or is not the lowest bit of its slot's version.
-fn wrong_byte(byte: u8, version: u32) -> bool
-    ensures { λ r. ⌜ r ≡ either (ltb 1 byte) (not (eqb byte (version % 2))) ⌝ }
+// The byte of slot i, or 0 where there is none.
+fn byte_at(presence: &[u8], i: u32) -> u8
+    ensures { λ r. ⌜ r ≡ getD (now (presence .entry)) i 0 ⌝ }
 {
-    if 1 < byte {
-        true
-    } else {
-        byte as u32 != version % 2
-    }
+    let at = i as usize;
+    if at < presence.len() { presence[at] } else { 0 }
 }
 
-// Some byte is wrong. n is how many there are.
+// A byte that is not 0 or 1, or is not the lowest bit of v, its slot's version.
+fn wrong_bit(byte: u8, v: u32) -> bool
+    ensures { λ r. ⌜ r ≡ wrongBit byte v ⌝ }
+{
+    if 1 < byte { true } else { byte as u32 != v % 2 }
+}
+
+// The byte of some slot below n is wrong.
 fn some_wrong(links: &[u32], presence: &[u8], n: u32) -> bool
-    requires { ⌜ n ≡ length (now presence) ⌝ }
-    ensures { λ r. ⌜ r ≡ someBelow n (wrongByte (now (links .entry)) (now (presence .entry))) ⌝ }
+    ensures { λ r. ⌜ r ≡ someBelow n (wrongByte (now (links .entry)) n (now (presence .entry))) ⌝ }
 {
     let mut i = 0;
     while i < n {
-        if wrong_byte(presence[i as usize], version(links, n, i)) {
+        if wrong_bit(byte_at(presence, i), version(links, n, i)) {
             return true;
         }
         i += 1;
@@ -47,7 +48,7 @@ pub fn rebuild_number(links: &[u32], rows: &[u32], presence: &[u8]) -> u32
     let number = lent_number(links.len(), rows.len());
     let number = or_if(number, presence.len() == 0, SHAPE);
     let number = or_if(number, links.len() / LINK_WORDS < presence.len(), SHAPE);
-    if number != 0 {
+    if number != PASSES {
         return number;
     }
     let n = presence.len() as u32;

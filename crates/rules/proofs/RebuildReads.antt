@@ -17,14 +17,14 @@ use Rattle.rules.proofs.Kept.{LinksKept, link-kept, row-kept, unless-ke
 use Rattle.rules.proofs.NeverRead.{unless-alike}
 
 -- the number; where it is 0 there is a byte
-same-bytes : (bytes l l′ : List ℕ) → AgreeTo (length bytes * linkWords) l l′ → wrongByte l bytes ≡ wrongByte l′ bytes
+same-bytes : (n : ℕ) (bytes l l′ : List ℕ) → AgreeTo (n * linkWords) l l′ → wrongByte l n bytes ≡ wrongByte l′ n bytes
 unfolding wrongByte
-same-bytes bytes l l′ g = fun-ext (λ i. simp (same-link (length bytes) l l′ g))
+same-bytes n bytes l l′ g = fun-ext (λ i. simp (same-link n l l′ g))
 
 same-rebuild : (bytes l l′ r r′ : List ℕ) → AgreeTo (length bytes * linkWords) l l′ → length r ≡ length r′ →
     rebuildNumber l r bytes ≡ rebuildNumber l′ r′ bytes
 unfolding rebuildNumber
-same-rebuild bytes l l′ r r′ g e = simp (same-bytes bytes l l′ g, same-link (length bytes) l l′ g, g .lengths, e)
+same-rebuild bytes l l′ r r′ g e = simp (same-bytes _ bytes l l′ g, same-link (length bytes) l l′ g, g .lengths, e)
 
 some-byte : (l r bytes : List ℕ) → rebuildNumber l r bytes ≡ 0 → 0 < length bytes
 unfolding rebuildNumber

@@ -1,4 +1,4 @@
--- Rebuild: its tests, then relinking, then clearing the rows of vacant slots. hop.rs 1379-1404 (a slot) and 1417-1472
+-- Rebuild: its tests, then the rows of vacant slots are cleared, then relinking. hop.rs 1379-1404 (a slot) and 1417-1472
 use Prim.Native.Nat.{ℕ, zero, suc, _%_}
 use mathlib.Core.List.{List}
 use mathlib.Core.Bool.{Bool, not}
@@ -13,9 +13,12 @@ use Rattle.rules.specs.Runs.{isFront, isBack, oddCount}
 use Rattle.rules.specs.declared.Header.{Header}
 
 -- a presence byte that is not 0 or 1, or not equal to the version's lowest bit
-unfoldable pub wrongByte : List ℕ → List ℕ → ℕ → Bool
-wrongByte l bytes i =
-    either (ltb 1 (getD bytes i 0)) (not (eqb (getD bytes i 0) (versionAt l (length bytes) i % 2)))
+abbrev pub wrongBit : ℕ → ℕ → Bool
+wrongBit byte v = either (ltb 1 byte) (not (eqb byte (v % 2)))
+
+-- the byte of slot i, of n, is wrong
+unfoldable pub wrongByte : List ℕ → ℕ → List ℕ → ℕ → Bool
+wrongByte l n bytes i = wrongBit (getD bytes i 0) (versionAt l n i)
 
 -- n from 1 to lent, else 1; 7 where any slot's byte is wrong; 8 where slot 0 is odd
 unfoldable pub rebuildNumber : List ℕ → List ℕ → List ℕ → ℕ
@@ -23,8 +26,15 @@ rebuildNumber l r bytes =
     lentNumber (length l) (length r)
     ▸ (eqb (length bytes) 0, shape)
     ▸ (ltb (lentOf l) (length bytes), shape)
-    ▸ (someBelow (length bytes) (wrongByte l bytes), wrongPresence)
+    ▸ (someBelow (length bytes) (wrongByte l (length bytes) bytes), wrongPresence)
     ▸ (isOdd (versionAt l (length bytes) 0), zeroOccupied)
+
+-- clearing: the rows of the vacant slots below k, of n, become zero
+unfoldable pub clearedRows : List ℕ → ℕ → ℕ → List ℕ → List ℕ
+clearedRows l n zero r = r
+clearedRows l n (suc k) r =
+    let rest = clearedRows l n k r in
+    pick (vacantAt l n k) (setRow rest k zeroRow) rest
 
 -- next, prev and other_end become zero in the slots below n
 unfoldable pub unlinked : ℕ → List ℕ → List ℕ
@@ -71,13 +81,6 @@ relinked l n =
       links = closed (chainSlots n n (record { links = unlinked n l; front = 0; last = 0 }));
       header = rebuilt n (oddCount (versionAt l n) n);
     }
-
--- clearing: the rows of the vacant slots below k, of n, become zero
-unfoldable pub clearedRows : List ℕ → ℕ → ℕ → List ℕ → List ℕ
-clearedRows l n zero r = r
-clearedRows l n (suc k) r =
-    let rest = clearedRows l n k r in
-    pick (vacantAt l n k) (setRow rest k zeroRow) rest
 
 abbrev pub rebuildStep : List ℕ → List ℕ → ℕ → Outcome
 rebuildStep l r n = plain done (relinked l n .header) (relinked l n .links) (clearedRows l n n r)

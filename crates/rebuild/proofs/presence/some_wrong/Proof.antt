@@ -12,7 +12,7 @@ use Rattle.rebuild.proofs.presence.some_wrong.Statement.{statement}
 use Rattle.rebuild.proofs.presence.some_wrong.Tie as tie
 
 abbrev Inv-loop : tie.InvT-loop
-Inv-loop links presence n i₀ i = (i ≤ n) × (someBelow i (wrongByte links presence) ≡ false)
+Inv-loop links presence n i₀ i = (i ≤ n) × (someBelow i (wrongByte links n presence) ≡ false)
 
 abbrev μ-loop : tie.MeasureT-loop
 μ-loop links presence n i₀ i = n - i
@@ -21,22 +21,19 @@ loop-holds : tie.Need-loop-holds Inv-loop μ-loop
 unfolding someBelow
 loop-holds c = (omega arith, refl)
 
-cast-wrong-byte : tie.Need-cast-wrong-byte Inv-loop μ-loop
-cast-wrong-byte c = search needs
-
-shared-slice-read-wrong-byte : tie.Need-shared-slice-read-wrong-byte Inv-loop μ-loop
-shared-slice-read-wrong-byte c = omega arith
+byte-at-requires : tie.Need-byte-at-requires Inv-loop μ-loop
+byte-at-requires c κs = search needs
 
 version-requires : tie.Need-version-requires Inv-loop μ-loop
 version-requires c κs = search needs
 
-wrong-byte-requires : tie.Need-wrong-byte-requires Inv-loop μ-loop
-wrong-byte-requires c κs = search needs
+wrong-bit-requires : tie.Need-wrong-bit-requires Inv-loop μ-loop
+wrong-bit-requires c κs = search needs
 
 -- the byte of slot i is judged as the rule does it
-judged : (c : tie.After-wrong-byte Inv-loop μ-loop) →
+judged : (c : tie.After-wrong-bit Inv-loop μ-loop) →
     let a = c .before .before .before .before .before .before .before .args in
-    c .wrong-byte .result ≡ wrongByte (now (a .links)) (now (a .presence)) (c .before .before .before .before .loop .i)
+    c .wrong-bit .result ≡ wrongByte (now (a .links)) (a .n) (now (a .presence)) (c .before .before .before .before .loop .i)
 unfolding wrongByte
 judged c = cc
 
@@ -66,10 +63,9 @@ some-wrong-spec =
     Inv-loop
     μ-loop
     loop-holds
-    cast-wrong-byte
-    shared-slice-read-wrong-byte
+    byte-at-requires
     version-requires
-    wrong-byte-requires
+    wrong-bit-requires
     returns
     add-i
     loop-less
