@@ -4,19 +4,18 @@ use mathlib.Core.List.{List}
 use mathlib.Core.Path.{_≡_, refl, fun-ext, _∙_}
 use native.Mathlib.Omega.{arith}
 use lib.ListN.{length, drop}
-use borrow.Author.Tests.{eqb-false}
 use Rattle.rules.specs.Words.{linkWords, rowWords, versionWord, versionAt, zeroRow, vacantAt}
 use Rattle.rules.specs.Runs.{isFront, isBack}
 use Rattle.rules.specs.Rebuild.{wrongByte, rebuildNumber, unlinked, Chain, chainRun, chainSlot, chainSlots, closed, relinked, clearedRows, rebuildRule}
 use Rattle.rules.specs.NeverRead.{AgreeTo, NeverReads}
 use Rattle.rules.specs.declared.Header.{Header}
 use Rattle.rules.proofs.Choice.{by-pick, by-picks}
-use Rattle.rules.proofs.Refusals.{passed}
+use Rattle.rules.proofs.Rebuild.{rebuild-passed}
 use Rattle.rules.proofs.Agree.{same-link, same-versions, link-agrees, row-agrees}
 use Rattle.rules.proofs.Kept.{LinksKept, link-kept, row-kept, unless-kept}
 use Rattle.rules.proofs.NeverRead.{unless-alike}
 
--- the number; where it is 0 there is a byte
+-- the number
 same-bytes : (n : ℕ) (bytes l l′ : List ℕ) → AgreeTo (n * linkWords) l l′ → wrongByte l n bytes ≡ wrongByte l′ n bytes
 unfolding wrongByte
 same-bytes n bytes l l′ g = fun-ext (λ i. simp (same-link n l l′ g))
@@ -25,16 +24,6 @@ same-rebuild : (bytes l l′ r r′ : List ℕ) → AgreeTo (length bytes * link
     rebuildNumber l r bytes ≡ rebuildNumber l′ r′ bytes
 unfolding rebuildNumber
 same-rebuild bytes l l′ r r′ g e = simp (same-bytes _ bytes l l′ g, same-link (length bytes) l l′ g, g .lengths, e)
-
-some-byte : (l r bytes : List ℕ) → rebuildNumber l r bytes ≡ 0 → 0 < length bytes
-unfolding rebuildNumber
-some-byte l r bytes e =
-    let e₄ = passed _ _ _ (omega arith) e in
-    let e₃ = passed _ _ _ (omega arith) (e₄ .0) in
-    let e₂ = passed _ _ _ (omega arith) (e₃ .0) in
-    let e₁ = passed _ _ _ (omega arith) (e₂ .0) in
-    let some : length bytes ≡ 0 → ⊥ = eqb-false _ _ (e₁ .1) in
-    omega (arith, some)
 
 -- links become zero
 unlinked-agrees : (n k : ℕ) (l l′ : List ℕ) → AgreeTo n l l′ → AgreeTo n (unlinked k l) (unlinked k l′)
@@ -170,5 +159,5 @@ rebuild-never-reads hd bytes =
           });
       kept = λ l r.
           unless-kept n l r hd _ _
-          (λ e. record { links = relinked-kept n l (some-byte l r bytes e); rows = cleared-kept n _ _ l r (omega arith) });
+          (λ e. record { links = relinked-kept n l (rebuild-passed l r bytes e .sized .some); rows = cleared-kept n _ _ l r (omega arith) });
     }

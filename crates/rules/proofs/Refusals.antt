@@ -23,9 +23,9 @@ passed k t n p e =
     e
 
 -- a number that there is stays
-pub stays : (k : ℕ) (t : Bool) (n : ℕ) → (k ≡ 0 → ⊥) → k ▸ (t, n) ≡ k
+pub number-stays : (k : ℕ) (t : Bool) (n : ℕ) → (k ≡ 0 → ⊥) → k ▸ (t, n) ≡ k
 unfolding _▸_
-stays k t n h = simp (ne-eqb k 0 h)
+number-stays k t n h = simp (ne-eqb k 0 h)
 
 -- a test of a chain that does not hold leaves the number
 pub skipped : (n : ℕ) (t : Bool) (k : ℕ) → t ≡ false → (n ▸ (t, k)) ≡ n

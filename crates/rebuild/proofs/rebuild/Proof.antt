@@ -26,7 +26,7 @@ returns c = numbered-by _ _ _ _ _ (c .before .rebuild-number .ensures) _ (c .if1
 few : (c : tie.Else1) →
     let a = c .before .before .before .before .before .before .before .args in
     Sized (now (a .links)) (now (a .rows)) (now (a .presence))
-few c = rebuild-passed _ _ _ (sym (c .before .rebuild-number .ensures) ∙ c .if1 .left)
+few c = rebuild-passed _ _ _ (sym (c .before .rebuild-number .ensures) ∙ c .if1 .left) .sized
 
 cast-n : tie.Need-cast-n
 cast-n c = omega (arith, few c .within, few c .lent .most)

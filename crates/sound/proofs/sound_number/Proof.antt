@@ -1,14 +1,14 @@
 -- `sound::sound_number` meets its contract. Assumes nothing.
-use Rattle.rules.specs.Refusals.{_▸_}
 use Rattle.rules.specs.Check.{soundNumber}
-use borrow.Author.Tests.{ne-eqb}
+use Rattle.rules.proofs.Refusals.{number-stays}
+use mathlib.Core.Path.{sym}
 use borrow.Author.Needs.{needs}
 use Rattle.sound.proofs.sound_number.Statement.{statement}
 use Rattle.sound.proofs.sound_number.Tie as tie
 
 returns : tie.Need-returns
-unfolding soundNumber _▸_
-returns c = simp (ne-eqb _ _ (c .if1 .taken))
+unfolding soundNumber
+returns c = sym (number-stays _ _ _ (c .if1 .taken))
 
 sound-test-requires : tie.Need-sound-test-requires
 sound-test-requires c κs = search needs

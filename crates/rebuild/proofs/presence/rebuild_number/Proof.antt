@@ -1,6 +1,6 @@
 -- `rebuild::presence::rebuild_number` meets its contract. Assumes nothing.
 use Rattle.rules.specs.Rebuild.{rebuildNumber}
-use Rattle.rules.proofs.Refusals.{stays}
+use Rattle.rules.proofs.Refusals.{number-stays}
 use Rattle.rules.proofs.Rebuild.{Sized, sized}
 use mathlib.Core.Path.{_≡_}
 use native.Mathlib.Omega.{arith}
@@ -26,8 +26,8 @@ returns c =
       ← c .before .before .before .lent-number .ensures,
       ← c .before .before .or-if .ensures,
       ← c .before .or-if2 .ensures,
-      stays (c .before .or-if2 .result),
-      stays (c .before .or-if2 .result),
+      number-stays (c .before .or-if2 .result),
+      number-stays (c .before .or-if2 .result),
     )
 
 -- past the tests of their number the bytes are at most as many as the slots lent
