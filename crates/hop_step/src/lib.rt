@@ -16,7 +16,7 @@ use rules::HopAnswer;
 use rules::Hopped;
 use rules::Key;
 use rules::STALE_CURSOR;
-use slots::runs::past_front;
+use slots::parity::past_front;
 use slots::words::occupied;
 use slots::words::other_end;
 use slots::words::vacant;

@@ -7,7 +7,7 @@ use Prim.Native.Nat.{ℕ, _-_, _*_, _≤_, _<_, _%_}
 use native.Mathlib.Decide.{ℕ-discrete}
 use native.Mathlib.Omega.{arith}
 use lib.ListN.{length}
-use borrow.Author.Tests.{eq-eqb, ne-eqb, le-ltb, eqb-false, ltb-false}
+use borrow.Author.Tests.{eq-eqb, ne-eqb, le-ltb}
 use Rattle.rules.specs.Choice.{times}
 use Rattle.rules.specs.Words.{linkWords, rowWords, lentOf, linkAt, versionAt, nextAt, prevAt, otherEndAt, newSlot, zeroRow, rowAt, setRow, vacantAt}
 use Rattle.rules.specs.Headers.{fresh, rebuilt}
@@ -17,8 +17,8 @@ use Rattle.rules.specs.Start.{startRule}
 use Rattle.rules.specs.Rebuild.{rebuildNumber, relinked, clearedRows, rebuildRule}
 use Rattle.rules.specs.Runs.{Front, oddCount}
 use Rattle.rules.specs.declared.Header.{Header}
-use Rattle.rules.proofs.Refusals.{passed}
 use Rattle.rules.proofs.Shape.{Lent, lent}
+use Rattle.rules.proofs.Rebuild.{Tested, rebuild-passed}
 use Rattle.runs.specs.Points.{put}
 use Rattle.runs.specs.Machine.{Machine}
 use Rattle.runs.specs.Rising.{rising}
@@ -116,28 +116,6 @@ module _ (l r bytes : List ℕ) (e : rebuildNumber l r bytes ≡ 0) where
   abbrev n : ℕ
   n = length bytes
 
-  record Tested : Type 0 where
-    may-be-lent : lentNumber (length l) (length r) ≡ 0
-    some : 1 ≤ n
-    within : n ≤ lentOf l
-    even : versionAt l n 0 % 2 ≡ 0
-
-  tested : Tested
-  unfolding rebuildNumber
-  tested =
-      let e₄ = passed _ _ _ (omega arith) e in
-      let e₃ = passed _ _ _ (omega arith) (e₄ .0) in
-      let e₂ = passed _ _ _ (omega arith) (e₃ .0) in
-      let e₁ = passed _ _ _ (omega arith) (e₂ .0) in
-      let odd : versionAt l n 0 % 2 ≡ 1 → ⊥ = eqb-false _ _ (e₄ .1) in
-      let none : n ≡ 0 → ⊥ = eqb-false _ _ (e₁ .1) in
-      record {
-        may-be-lent = e₁ .0;
-        some = omega (arith, none);
-        within = ltb-false _ _ (e₂ .1);
-        even = omega (arith, odd);
-      }
-
   rebuild-shows : Shows (relinked l n .links) (clearedRows l n n r) (relinked l n .header)
       (rebuildOn (versionAt l n) (rowAt r n) n (lentOf l) .machine)
   unfolding relinked vacantAt
@@ -145,20 +123,20 @@ module _ (l r bytes : List ℕ) (e : rebuildNumber l r bytes ≡ 0) where
       subst (Shows (relinked l n .links) (clearedRows l n n r) (rebuilt n (oddCount (versionAt l n) n)))
       (cc (relinked-versions l n n, fun-ext (cleared-row l r n row-room), relinked-length l n))
       (shows (relinked l n .links) (clearedRows l n n r) (rebuilt n (oddCount (versionAt l n) n)) (rising (versionAt l n) n)
-      (fits-shape _ _ _ (same-lent l r (relinked l n .links) (clearedRows l n n r) (p .may-be-lent) (relinked-length l n) (cleared-length l r n n)) (p .some)
-      (omega (arith, p .within, relinked-length l n))
-      (odd-but-one (versionAt l n) n 0 (p .some) (p .even)))
-      (relinked-linked l n (p .some) link-room (p .even))
+      (fits-shape _ _ _ (same-lent l r (relinked l n .links) (clearedRows l n n r) (p .sized .may-be-lent) (relinked-length l n) (cleared-length l r n n)) (p .sized .some)
+      (omega (arith, p .sized .within, relinked-length l n))
+      (odd-but-one (versionAt l n) n 0 (p .sized .some) (p .even)))
+      (relinked-linked l n (p .sized .some) link-room (p .even))
       (ap (λ (v : ℕ → ℕ). oddCount v n) (sym (relinked-versions l n n))))
     where
-      p : Tested
-      p = tested
+      p : Tested l r bytes
+      p = rebuild-passed l r bytes e
 
       link-room : n * linkWords ≤ length l
-      link-room = let t = lent (length l) (length r) (tested .may-be-lent) in omega (arith, tested .within, t .link-words)
+      link-room = omega (arith, p .sized .within, p .sized .lent .link-words)
 
       row-room : n * rowWords ≤ length r
-      row-room = let t = lent (length l) (length r) (tested .may-be-lent) in omega (arith, tested .within, t .row-words)
+      row-room = omega (arith, p .sized .within, p .sized .lent .row-words)
 
   pub rebuild-does : (hd : Header) → Does (rebuildRule l r hd bytes)
       (rebuildOn (versionAt l n) (rowAt r n) n (lentOf l))

@@ -5,7 +5,7 @@ ghost use Rattle.rules.specs.Runs.{runCount};
 ghost use Rattle.rules.specs.Check.{mayFollow, circleTest};
 use slots::choice::both;
 use slots::choice::one_if;
-use slots::runs::is_front;
+use slots::parity::is_front;
 use slots::words::next;
 use slots::words::prev;
 

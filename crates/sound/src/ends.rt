@@ -5,7 +5,7 @@ ghost use Rattle.rules.specs.Choice.{pick};
 ghost use Rattle.rules.specs.Words.{versionAt, vacantBy};
 ghost use Rattle.rules.specs.Check.{meetAt, endsTest};
 use slots::choice::both;
-use slots::runs::is_back;
+use slots::parity::is_back;
 use slots::words::other_end;
 use slots::words::vacant;
 

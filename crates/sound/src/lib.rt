@@ -15,7 +15,7 @@ use rules::DAMAGED;
 use rules::Header;
 use rules::Numbered;
 use slots::choice::both;
-use slots::runs::odd_count;
+use slots::parity::odd_count;
 use slots::words::version;
 
 // The table is sound.

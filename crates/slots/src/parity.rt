@@ -1,4 +1,4 @@
-// Runs of vacant slots, as the versions tell them: where a run starts, where it ends; and how many versions are odd.
+// What the parity of the versions tells: where a run of vacant slots starts, where it ends, and how many slots are occupied.
 ghost use mathlib.Core.Path.{_≡_};
 ghost use Rattle.rules.specs.Words.{versionAt};
 ghost use Rattle.rules.specs.Runs.{pastFront, isFront, isBack, oddCount};
