@@ -2,7 +2,6 @@
 use mathlib.Core.Path.{_≡_, ap}
 use mathlib.Core.List.{List, _∷_}
 use Prim.Native.Nat.{ℕ, _-_, _≤_, _<_, _%_}
-use native.Mathlib.Decide.{decLe}
 use native.Mathlib.Omega.{arith}
 use Rattle.rules.specs.Choice.{times}
 use Rattle.rules.specs.Runs.{Front, Run}
@@ -14,13 +13,13 @@ pub record Fronts (v : ℕ → ℕ) (u : ℕ) (l : List ℕ) : Type 0 where
   pub every : (k : ℕ) → Front v u k → times k (0 ∷ l) ≡ 1
   pub only : (k : ℕ) → 1 ≤ times k (0 ∷ l) → Front v u k
 
+-- none stands in it twice
 pub fronts-once : (v : ℕ → ℕ) (u : ℕ) (l : List ℕ) → Fronts v u l → (k : ℕ) → times k (0 ∷ l) ≤ 1
-fronts-once v u l i k = go (decLe 1 (times k (0 ∷ l)))
-  where
-    go : Dec (1 ≤ times k (0 ∷ l)) → times k (0 ∷ l) ≤ 1
-    go (yes h) = omega (arith, i .every k (i .only k h))
-    go (no h) = omega arith
+fronts-once v u l fronts k =
+    let not-twice : 2 ≤ times k (0 ∷ l) → ⊥ = λ h. omega (arith, fronts .every k (fronts .only k (omega arith))) in
+    omega arith
 
+-- a slot under two names stands in a list equally often
 pub same-times : (a b : ℕ) (l : List ℕ) → a ≡ b → times a l ≡ times b l
 same-times a b l e = ap (λ (x : ℕ). times x l) e
 
