@@ -8,94 +8,87 @@ use native.Mathlib.Omega.{arith}
 use Rattle.rules.specs.Choice.{times}
 use Rattle.rules.specs.Runs.{Front, Run}
 use Rattle.runs.proofs.Points.{alike-other}
-use Rattle.runs.proofs.Runs.{par, make-run, run-same}
+use Rattle.runs.proofs.Runs.{par, make-run, front-kept, run-kept, run-same}
 use Rattle.runs.proofs.Fronts.{Fronts, Ended, same-times}
 
--- Slot b, the back of the run from h, becomes occupied
+-- slot b, the back of the run from h, becomes occupied
 module _ (v v′ : ℕ → ℕ) (u h b : ℕ) (run : Run v u h b) (odd′ : v′ b % 2 ≡ 1) (same : (k : ℕ) → k ≢ b → v′ k ≡ v k) where
-  same-parity : (k : ℕ) → k ≢ b → v′ k % 2 ≡ v k % 2
-  same-parity k n = ap (λ (x : ℕ). x % 2) (same k n)
+  -- slot b is not vacant afterwards, and no front comes right after it, neither before nor afterwards
+  vacant-not-b : (k : ℕ) → v′ k % 2 ≡ 0 → k ≢ b
+  vacant-not-b k even t = omega (arith, par v′ k b t)
 
-  pub front-before : (k : ℕ) → Front v′ u k → Front v u k × (k ≢ b)
-  front-before k f =
-      let n : k ≢ b = λ t. omega (arith, f .vacant, par v′ k b t) in (
-        record {
-          below = f .below;
-          vacant = omega (arith, same-parity k n, f .vacant);
-          starts = λ m e. omega (arith, f .starts m e, same-parity m (λ t. omega (arith, f .vacant, f .below, same-parity k n, run .stops (omega (arith, f .below)), par v k (suc b) (omega arith))));
-        },
-        n,
-      )
+  not-before-front : (k : ℕ) → Front v u k → (m : ℕ) → suc m ≡ k → m ≢ b
+  not-before-front k f m e t = omega (arith, f .starts m e, par v m b t, run .vacant b (run .ordered) (omega arith))
 
-  pub front-still : (k : ℕ) → k ≢ b → Front v u k → Front v′ u k
-  front-still k n f = record {
-    below = f .below;
-    vacant = omega (arith, same-parity k n, f .vacant);
-    starts = λ m e. st m e (ℕ-discrete m b);
+  not-before-front′ : (k : ℕ) → Front v′ u k → (m : ℕ) → suc m ≡ k → m ≢ b
+  not-before-front′ k f m e t =
+      let same-k = same k (vacant-not-b k (f .vacant)) in
+      omega (arith, f .vacant, run .stops (omega (arith, f .below)), par v k (suc b) (omega arith))
+
+  -- a front was one before
+  front-before : (k : ℕ) → Front v′ u k → Front v u k
+  front-before k f = front-kept (f .below) (same k (vacant-not-b k (f .vacant))) (λ m e. same m (not-before-front′ k f m e)) f
+
+  -- a front at another slot stays one
+  front-still : (k : ℕ) → k ≢ b → Front v u k → Front v′ u k
+  front-still k n f = front-kept (f .below) (sym (same k n)) (λ m e. sym (same m (not-before-front k f m e))) f
+
+  -- what the list must be afterwards: slot b is not in it, all others are as before
+  pub filled-fronts : (l l′ : List ℕ) → b ≢ 0 → Fronts v u l
+      → ((k : ℕ) → k ≢ b → times k l′ ≡ times k l) → times b l′ ≡ 0 → Fronts v′ u l′
+  filled-fronts l l′ not-0 fronts others at-b = record {
+    zero-even = omega (arith, fronts .zero-even, same 0 (λ t. omega arith));
+    positive = fronts .positive;
+    every = λ k f. omega (arith, fronts .every k (front-before k f), others k (vacant-not-b k (f .vacant)));
+    only = λ k q. only-after k q (ℕ-discrete k b);
   }
     where
-      st : (m : ℕ) → suc m ≡ k → Dec (m ≡ b) → v′ m % 2 ≡ 1
-      st m e (yes t) = omega (arith, par v′ m b t)
-      st m e (no t) = omega (arith, f .starts m e, same-parity m t)
+      only-after : (k : ℕ) → 1 ≤ times k (0 ∷ l′) → Dec (k ≡ b) → Front v′ u k
+      only-after k q (yes t) = absurd (omega (arith, same-times k b l′ t, alike-other k 0 (λ x. omega arith)))
+      only-after k q (no n) = front-still k n (fronts .only k (omega (arith, others k n)))
 
-  pub filled-fronts : (l l′ : List ℕ) → b ≢ 0 → Fronts v u l → ((k : ℕ) → k ≢ b → times k l′ ≡ times k l) → times b l′ ≡ 0 → Fronts v′ u l′
-  filled-fronts l l′ z i h₁ h₂ = record {
-    zero-even = omega (arith, i .zero-even, same-parity 0 (λ t. omega arith));
-    positive = i .positive;
-    every = λ k f. let w = front-before k f in omega (arith, i .every k (w .0), h₁ k (w .1));
-    only = λ k h. onl k h (ℕ-discrete k b);
-  }
-    where
-      onl : (k : ℕ) → 1 ≤ times k (0 ∷ l′) → Dec (k ≡ b) → Front v′ u k
-      onl k h (yes t) = absurd (omega (arith, same-times k b l′ t, alike-other k 0 (λ q. omega arith)))
-      onl k h (no n) = front-still k n (i .only k (omega (arith, h₁ k n)))
-
-  -- a run that does not end just below b stood before
+  -- a run that does not end just below slot b stood before
   run-before : (f c : ℕ) → Run v′ u f c → suc c ≢ b → Run v u f c
   run-before f c r n =
-      let nb : (k : ℕ) → f ≤ k → k ≤ c → k ≢ b = λ k p q t. omega (arith, r .vacant k p q, par v′ k b t) in
-      make-run (λ m e. omega (
-        arith,
-        r .front .starts m e,
-        same-parity m (λ t. omega
-            (arith, r .ordered, r .below, r .vacant f (omega arith) (r .ordered), same-parity f (nb f (omega arith) (r .ordered)), run .stops (omega (arith, r .ordered, r .below)), par v f (suc b) (omega arith))),
-      )) (r .ordered) (λ k p q. omega (arith, r .vacant k p q, same-parity k (nb k p q))) (r .below) (λ q. omega (arith, r .stops q, same-parity (suc c) n))
+      run-kept (λ m e. same m (not-before-front′ f (r .front) m e)) (λ k p q. same k (vacant-not-b k (r .vacant k p q)))
+      (λ _. same (suc c) n) r
 
-  -- and lies apart from the run from h to b
+  -- and lies before the run from h to b, unless it lies after it
   run-apart : (f c : ℕ) → Run v′ u f c → suc c ≢ b → (b < f → ⊥) → c < h
-  run-apart f c r n m = go (decLt c h)
-    where
-      go : Dec (c < h) → c < h
-      go (yes q) = q
-      go (no q) =
-          let s = run-same v u f c h b (run-before f c r n) run (omega arith) (omega arith) in
-          absurd (omega (arith, r .vacant c (r .ordered) (omega arith), par v′ c b (s .1)))
+  run-apart f c r n m =
+      let overlap : h ≤ c → ⊥ = λ q.
+      let s = run-same v u f c h b (run-before f c r n) run (omega arith) q in
+      vacant-not-b c (r .vacant c (r .ordered) (omega arith)) (s .1) in
+      omega arith
 
+  -- the run was slot b alone: all other ends stand
   pub last-ends : (e e′ : ℕ → ℕ) → h ≡ b → ((k : ℕ) → k ≢ b → e′ k ≡ e k) → Ended v u e → Ended v′ u e′
-  last-ends e e′ eq se en f c r = go (ℕ-discrete (suc c) b)
-    where
-      nb : (k : ℕ) → f ≤ k → k ≤ c → k ≢ b
-      nb k p q t = omega (arith, r .vacant k p q, par v′ k b t)
+  last-ends e e′ alone others ends f c r =
+      let at-back : v′ c % 2 ≡ 0 = r .vacant c (r .ordered) (omega arith) in
+      let n : suc c ≢ b = λ t. omega (arith, at-back, same c (λ q. omega arith), run .front .starts c (omega arith)) in
+      let o = ends f c (run-before f c r n) in
+      (others f (vacant-not-b f (r .front .vacant)) ∙ o .0, others c (vacant-not-b c at-back) ∙ o .1)
 
-      go : Dec (suc c ≡ b) → (e′ f ≡ c) × (e′ c ≡ f)
-      go (yes t) = absurd (omega (arith, r .vacant c (r .ordered) (omega arith), same-parity c (λ q. omega arith), run .front .starts c (omega arith)))
-      go (no n) = let o = en f c (run-before f c r n) in
-          (se f (nb f (omega arith) (r .ordered)) ∙ o .0, se c (nb c (r .ordered) (omega arith)) ∙ o .1)
-
+  -- the run was longer: it ends at the slot d before b
   run-shorter : (d : ℕ) → suc d ≡ b → h ≤ d → Run v′ u h d
-  run-shorter d t l = make-run (λ m e. omega (arith, run .front .starts m e, same-parity m (λ q. omega arith))) (l) (λ k p q. omega (arith, run .vacant k p (omega arith), same-parity k (λ w. omega arith))) (omega (arith, run .below)) (λ q. omega (arith, par v′ (suc d) b t))
+  run-shorter d t ordered =
+      make-run (λ m e. omega (arith, run .front .starts m e, same m (λ q. omega arith))) ordered
+      (λ k p q. omega (arith, run .vacant k p (omega arith), same k (λ x. omega arith))) (omega (arith, run .below))
+      (λ q. omega (arith, par v′ (suc d) b t))
 
+  -- its ends stand where they are written, and the others where they stood
   pub back-ends : (e e′ : ℕ → ℕ) (d : ℕ) → suc d ≡ b → h ≤ d → e′ h ≡ d → e′ d ≡ h
       → ((k : ℕ) → k < h → e′ k ≡ e k) → ((k : ℕ) → b < k → e′ k ≡ e k) → Ended v u e → Ended v′ u e′
-  back-ends e e′ d eq l e₁ e₂ lo hi en f c r = go (ℕ-discrete (suc c) b) (decLt b f)
+  back-ends e e′ d eq ordered at-front at-back below above ends f c r = go (ℕ-discrete (suc c) b) (decLt b f)
     where
       go : Dec (suc c ≡ b) → Dec (b < f) → (e′ f ≡ c) × (e′ c ≡ f)
       go (yes t) _ =
-          let s = run-same v′ u f c h d r (run-shorter d eq l) (omega (arith, r .ordered)) (omega arith) in
-          (ap e′ (s .0) ∙ e₁ ∙ sym (s .1), ap e′ (s .1) ∙ e₂ ∙ sym (s .0))
-      go (no n) (yes m) = let o = en f c (run-before f c r n) in
-          (hi f m ∙ o .0, hi c (omega (arith, r .ordered)) ∙ o .1)
+          let s = run-same v′ u f c h d r (run-shorter d eq ordered) (omega (arith, r .ordered)) (omega arith) in
+          (ap e′ (s .0) ∙ at-front ∙ sym (s .1), ap e′ (s .1) ∙ at-back ∙ sym (s .0))
+      go (no n) (yes m) =
+          let o = ends f c (run-before f c r n) in
+          (above f m ∙ o .0, above c (omega (arith, r .ordered)) ∙ o .1)
       go (no n) (no m) =
-          let o = en f c (run-before f c r n) in
+          let o = ends f c (run-before f c r n) in
           let q = run-apart f c r n m in
-          (lo f (omega (arith, r .ordered)) ∙ o .0, lo c q ∙ o .1)
+          (below f (omega (arith, r .ordered)) ∙ o .0, below c q ∙ o .1)

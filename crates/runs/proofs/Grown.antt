@@ -1,45 +1,46 @@
 -- An occupied slot comes into use at the end: fronts and ends stay. Assumes nothing.
-use mathlib.Core.Path.{_≡_, ap, _∙_}
+use mathlib.Core.Path.{_≡_, sym, _∙_}
+use mathlib.Core.Logic.{_≢_}
 use mathlib.Core.List.{List}
-use Prim.Native.Nat.{ℕ, suc, _-_, _<_, _%_}
-use native.Mathlib.Decide.{ℕ-discrete}
+use Prim.Native.Nat.{ℕ, suc, _-_, _≤_, _<_, _%_}
 use native.Mathlib.Omega.{arith}
 use Rattle.rules.specs.Runs.{Front}
-use Rattle.runs.proofs.Runs.{par, make-run}
+use Rattle.runs.proofs.Runs.{par, make-run, front-kept}
 use Rattle.runs.proofs.Fronts.{Fronts, Ended}
 
--- Slot u, occupied, comes into use
+-- slot u, occupied, comes into use
 module _ (v v′ : ℕ → ℕ) (u : ℕ) (odd′ : v′ u % 2 ≡ 1) (same : (k : ℕ) → k < u → v′ k ≡ v k) where
-  same-parity : (k : ℕ) → k < u → v′ k % 2 ≡ v k % 2
-  same-parity k n = ap (λ (x : ℕ). x % 2) (same k n)
+  -- a vacant slot is not the new one
+  vacant-below : (k : ℕ) → k < suc u → v′ k % 2 ≡ 0 → k < u
+  vacant-below k low even =
+      let not-u : k ≢ u = λ t. omega (arith, par v′ k u t) in
+      omega arith
 
-  pub front-before : (k : ℕ) → Front v′ (suc u) k → Front v u k
+  -- a front was one before, and stays one
+  front-before : (k : ℕ) → Front v′ (suc u) k → Front v u k
   front-before k f =
-      let n : k < u = lt (ℕ-discrete k u) in
-      record { below = n; vacant = omega (arith, f .vacant, same-parity k n); starts = λ m e. omega (arith, f .starts m e, same-parity m (omega arith)) }
-    where
-      lt : Dec (k ≡ u) → k < u
-      lt (yes e) = absurd (omega (arith, f .vacant, par v′ k u e))
-      lt (no n) = omega (arith, f .below)
+      let low : k < u = vacant-below k (f .below) (f .vacant) in
+      front-kept low (same k low) (λ m e. same m (omega arith)) f
 
-  pub front-still : (k : ℕ) → Front v u k → Front v′ (suc u) k
+  front-still : (k : ℕ) → Front v u k → Front v′ (suc u) k
   front-still k f =
-      record { below = omega (arith, f .below); vacant = omega (arith, f .vacant, same-parity k (f .below)); starts = λ m e. omega (arith, f .starts m e, same-parity m (omega (arith, f .below))) }
+      let low : k < u = f .below in
+      front-kept (omega arith) (sym (same k low)) (λ m e. sym (same m (omega arith))) f
 
+  -- so the list has the fronts afterwards too
   pub grown-fronts : (l : List ℕ) → Fronts v u l → Fronts v′ (suc u) l
-  grown-fronts l i = record {
-    zero-even = omega (arith, i .zero-even, same-parity 0 (i .positive));
+  grown-fronts l fronts = record {
+    zero-even = omega (arith, fronts .zero-even, same 0 (fronts .positive));
     positive = omega arith;
-    every = λ k f. i .every k (front-before k f);
-    only = λ k h. front-still k (i .only k h);
+    every = λ k f. fronts .every k (front-before k f);
+    only = λ k h. front-still k (fronts .only k h);
   }
 
+  -- and the ends stand, where they stand below u
   pub grown-ends : (e e′ : ℕ → ℕ) → ((k : ℕ) → k < u → e′ k ≡ e k) → Ended v u e → Ended v′ (suc u) e′
-  grown-ends e e′ se en f b r =
-      let n : b < u = lt (ℕ-discrete b u) in
-      let o = en f b (make-run (λ m q. omega (arith, r .front .starts m q, same-parity m (omega (arith, r .ordered)))) (r .ordered) (λ k p q. omega (arith, r .vacant k p q, same-parity k (omega arith))) (n) (λ q. omega (arith, r .stops (omega arith), same-parity (suc b) q))) in
-      (se f (omega (arith, r .ordered)) ∙ o .0, se b n ∙ o .1)
-    where
-      lt : Dec (b ≡ u) → b < u
-      lt (yes q) = absurd (omega (arith, r .vacant b (r .ordered) (omega arith), par v′ b u q))
-      lt (no n) = omega (arith, r .below)
+  grown-ends e e′ others ends f b run =
+      let low : b < u = vacant-below b (run .below) (run .vacant b (run .ordered) (omega arith)) in
+      let o = ends f b (make-run (front-before f (run .front) .starts) (run .ordered)
+      (λ k p q. omega (arith, run .vacant k p q, same k (omega arith))) low
+      (λ q. omega (arith, run .stops (omega arith), same (suc b) q))) in
+      (others f (omega (arith, run .ordered)) ∙ o .0, others b low ∙ o .1)
