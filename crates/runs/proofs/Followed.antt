@@ -2,7 +2,7 @@
 use mathlib.Core.Path.{_≡_, refl, sym, ap, _∙_, subst}
 use mathlib.Core.Logic.{_≢_}
 use mathlib.Core.List.{List, [], _∷_}
-use Prim.Native.Nat.{ℕ, suc, _-_, _≤_, _<_, _%_}
+use Prim.Native.Nat.{ℕ, suc, _≤_, _<_, _%_}
 use native.Mathlib.Decide.{ℕ-discrete}
 use native.Mathlib.Omega.{arith}
 use Rattle.rules.specs.Choice.{times}
@@ -19,10 +19,11 @@ abbrev pub IsVacant : (ℕ → ℕ) → ℕ → ℕ → Type 0
 IsVacant v u k = (k < u) × (v k % 2 ≡ 0)
 
 module _ (v n p e : ℕ → ℕ) (u : ℕ) (l : List ℕ) (L : Linked v n p e u l) where
+  -- every front is vacant
   front-vacant : (k : ℕ) → Front v u k → IsVacant v u k
   front-vacant k f = (f .below, f .vacant)
 
-  -- next and prev of a front are in the chain, so they are fronts
+  -- next and prev of a front are in the chain
   neighbours-listed : (k : ℕ) → Front v u k → Dec (k ≡ 0) → (1 ≤ times (n k) (0 ∷ l)) × (1 ≤ times (p k) (0 ∷ l))
   neighbours-listed k f (yes t) =
       subst (λ (x : ℕ). (1 ≤ times (n x) (0 ∷ l)) × (1 ≤ times (p x) (0 ∷ l))) (sym t)
@@ -34,12 +35,14 @@ module _ (v n p e : ℕ → ℕ) (u : ℕ) (l : List ℕ) (L : Linked v n p e u 
         omega (arith, seg-last n p 0 (c .0) k (s .0), ap (times (p k)) (c .2), times-append (p k) (c .0) (k ∷ c .1)),
       )
 
+  -- next and prev of a front are fronts
   next-front : (k : ℕ) → Front v u k → Front v u (n k)
   next-front k f = L .fronts .only (n k) (neighbours-listed k f (ℕ-discrete k 0) .0)
 
   prev-front : (k : ℕ) → Front v u k → Front v u (p k)
   prev-front k f = L .fronts .only (p k) (neighbours-listed k f (ℕ-discrete k 0) .1)
 
+  -- slot 0 is a front
   zero-front : Front v u 0
   zero-front = L .fronts .only 0 (times-head 0 l)
 
@@ -47,13 +50,13 @@ module _ (v n p e : ℕ → ℕ) (u : ℕ) (l : List ℕ) (L : Linked v n p e u 
   pub insert-h : IsVacant v u (n 0)
   insert-h = front-vacant (n 0) (next-front 0 zero-front)
 
-  -- its b, the back of that run: vacant, not before h, and other_end leads back to h
+  -- its b, the back of that run: vacant, not before h, and its other_end is h
   pub insert-b : IsVacant v u (e (n 0)) × (n 0 ≤ e (n 0)) × (e (e (n 0)) ≡ n 0)
   insert-b =
       let r = first-run v n p e u l L in
       ((r .below, r .vacant (e (n 0)) (r .ordered) (omega arith)), r .ordered, L .ends (n 0) (e (n 0)) r .1)
 
-  -- the slot before b, where that is not h: vacant
+  -- the slot before b, where b is not h: vacant
   pub insert-before : (d : ℕ) → suc d ≡ e (n 0) → n 0 ≢ e (n 0) → v d % 2 ≡ 0
   insert-before d q m = let r = first-run v n p e u l L in r .vacant d (omega (arith, r .ordered)) (omega arith)
 

@@ -2,7 +2,7 @@
 use mathlib.Core.Path.{_≡_, refl, sym, ap, _∙_, subst}
 use mathlib.Core.Logic.{_≢_}
 use mathlib.Core.List.{List, _∷_}
-use Prim.Native.Nat.{ℕ, suc, _-_, _≤_, _<_, _%_}
+use Prim.Native.Nat.{ℕ, suc, _≤_, _<_, _%_}
 use native.Mathlib.Decide.{ℕ-discrete, decLt}
 use native.Mathlib.Omega.{arith}
 use Rattle.rules.specs.Choice.{times}
@@ -30,7 +30,7 @@ module _ (v v′ : ℕ → ℕ) (u j : ℕ) (low : suc j < u) (odd : v (suc j) %
       let not-i : k ≢ i = λ t. omega (arith, f .vacant, par v k i t) in
       front-kept (f .below) (sym (same k not-i)) (λ m e. sym (same m (λ t. omega arith))) f
 
-  -- slot i becomes a front where slot j is occupied, and only there; slot r is none
+  -- slot i becomes a front where slot j is occupied, and only there
   front-new : v j % 2 ≡ 1 → Front v′ u i
   front-new left =
       record { below = low; vacant = even′; starts = λ m e. omega (arith, par v m j (omega arith), same m (λ t. omega arith)) }
@@ -38,10 +38,11 @@ module _ (v v′ : ℕ → ℕ) (u j : ℕ) (low : suc j < u) (odd : v (suc j) %
   front-only : Front v′ u i → v j % 2 ≡ 1
   front-only f = omega (arith, f .starts j refl, same j (λ t. omega arith))
 
+  -- slot r is no front
   right-no-front : Front v′ u r → ⊥
   right-no-front f = omega (arith, f .starts i refl)
 
-  -- what the list must be afterwards, count by count
+  -- the list has the fronts afterwards, where slot i stands in it if j is occupied, r does not, and all others stand as before
   pub freed-fronts : (l l′ : List ℕ) → Fronts v u l → ((k : ℕ) → k ≢ i → k ≢ r → times k l′ ≡ times k l)
       → times r l′ ≡ 0 → times i l′ ≡ v j % 2 → Fronts v′ u l′
   freed-fronts l l′ fronts others at-r at-i = record {
@@ -63,7 +64,7 @@ module _ (v v′ : ℕ → ℕ) (u j : ℕ) (low : suc j < u) (odd : v (suc j) %
       only-after k h (no n) (yes e) = absurd (omega (arith, same-times k r l′ e, alike-other k 0 (λ t. omega arith)))
       only-after k h (no n) (no m) = front-still k m (fronts .only k (omega (arith, others k n m)))
 
-  -- the new run, from slot i down: to i itself, or to the front of the run that ended at j
+  -- the run that holds slot i then goes down to i itself, or to the front of the run that ended at j
   pub left-end : v j % 2 ≡ 1 → Down v′ i i
   left-end left = down-here even′ (front-new left .starts)
 
@@ -77,7 +78,7 @@ module _ (v v′ : ℕ → ℕ) (u j : ℕ) (low : suc j < u) (odd : v (suc j) %
         vacant = λ k p q. omega (arith, run .vacant k p q, same k (λ t. omega arith));
       }
 
-  -- and from slot i up: to i itself, or to the back of the run that began at r
+  -- and goes up to i itself, or to the back of the run that began at r
   pub right-end : (r < u → v r % 2 ≡ 1) → Up v′ u i i
   right-end right = up-here low even′ (λ h. omega (arith, right h, same r (λ t. omega arith)))
 
@@ -98,7 +99,7 @@ module _ (v v′ : ℕ → ℕ) (u j : ℕ) (low : suc j < u) (odd : v (suc j) %
       run-kept (λ m e. same m (λ t. omega (arith, run .front .starts m e, par v′ m i t))) (λ k p q. same k (n k p q))
       (λ h. same (suc b) (λ t. omega (arith, run .stops h, par v′ (suc b) i t))) run
 
-  -- the ends stand where they are written at the run that holds slot i, and nowhere outside it
+  -- the ends fit, where the run that holds slot i has its own written and nothing outside it has changed
   pub freed-ends : (e e′ : ℕ → ℕ) (f₀ b₀ : ℕ) → Run v′ u f₀ b₀ → f₀ ≤ i → i ≤ b₀ → Ended v u e
       → e′ f₀ ≡ b₀ → e′ b₀ ≡ f₀ → ((k : ℕ) → k < f₀ → e′ k ≡ e k) → ((k : ℕ) → b₀ < k → e′ k ≡ e k) → Ended v′ u e′
   freed-ends e e′ f₀ b₀ run₀ p₀ q₀ ends at-front at-back below above f b run = go (decLt b f₀) (decLt b₀ f)

@@ -1,7 +1,7 @@
 -- The fronts of runs as a list, and the words at both ends of a run. Assumes nothing.
 use mathlib.Core.Path.{_≡_, ap}
 use mathlib.Core.List.{List, _∷_}
-use Prim.Native.Nat.{ℕ, _-_, _≤_, _<_, _%_}
+use Prim.Native.Nat.{ℕ, _≤_, _<_, _%_}
 use native.Mathlib.Omega.{arith}
 use Rattle.rules.specs.Choice.{times}
 use Rattle.rules.specs.Runs.{Front, Run}

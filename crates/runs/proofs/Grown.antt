@@ -2,7 +2,7 @@
 use mathlib.Core.Path.{_≡_, sym, _∙_}
 use mathlib.Core.Logic.{_≢_}
 use mathlib.Core.List.{List}
-use Prim.Native.Nat.{ℕ, suc, _-_, _≤_, _<_, _%_}
+use Prim.Native.Nat.{ℕ, suc, _<_, _%_}
 use native.Mathlib.Omega.{arith}
 use Rattle.rules.specs.Runs.{Front}
 use Rattle.runs.proofs.Runs.{par, make-run, front-kept}

@@ -2,7 +2,7 @@
 use mathlib.Core.Path.{_≡_, sym, subst}
 use mathlib.Core.Logic.{_≢_}
 use mathlib.Core.List.{List, _∷_}
-use Prim.Native.Nat.{ℕ, suc, _-_, _≤_, _<_, _%_}
+use Prim.Native.Nat.{ℕ, suc, _≤_, _<_, _%_}
 use native.Mathlib.Omega.{arith}
 use Rattle.rules.specs.Choice.{times}
 use Rattle.rules.specs.Runs.{Front, Run}

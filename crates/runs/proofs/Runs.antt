@@ -35,12 +35,12 @@ run-kept before within after r =
 
 -- two runs that overlap are one
 pub run-same : (v : ℕ → ℕ) (u f b f′ b′ : ℕ) → Run v u f b → Run v u f′ b′ → f ≤ b′ → f′ ≤ b → (f ≡ f′) × (b ≡ b′)
-run-same v u f b f′ b′ r s h₁ h₂ = (
-  omega (arith, front-≤ f b f′ b′ r s h₁, front-≤ f′ b′ f b s r h₂),
-  omega (arith, back-≤ f b f′ b′ r s h₁, back-≤ f′ b′ f b s r h₂),
+run-same v u f b f′ b′ r s h h′ = (
+  omega (arith, front-≤ f b f′ b′ r s h, front-≤ f′ b′ f b s r h′),
+  omega (arith, back-≤ f b f′ b′ r s h, back-≤ f′ b′ f b s r h′),
 )
   where
-    -- neither begins later than the other, neither ends later
+    -- neither begins later than the other, and neither ends later
     front-≤ : (f b f′ b′ : ℕ) → Run v u f b → Run v u f′ b′ → f ≤ b′ → f ≤ f′
     front-≤ zero b f′ b′ r s h = omega arith
     front-≤ (suc m) b f′ b′ r s h =
@@ -49,7 +49,7 @@ run-same v u f b f′ b′ r s h₁ h₂ = (
 
     back-≤ : (f b f′ b′ : ℕ) → Run v u f b → Run v u f′ b′ → f ≤ b′ → b ≤ b′
     back-≤ f b f′ b′ r s h =
-        let not-later : b′ < b → ⊥ = λ q. omega (arith, r .below, s .stops (omega (arith, r .below)), r .vacant (suc b′) (omega arith) q) in
+        let not-later : b′ < b → ⊥ = λ q. omega (arith, s .stops (omega (arith, r .below)), r .vacant (suc b′) (omega arith) q) in
         omega arith
 
 -- from the vacant slot k down to the front f of its run
@@ -67,18 +67,19 @@ pub record Up (v : ℕ → ℕ) (u k b : ℕ) : Type 0 where
 
 -- the two together are the run
 pub meet : {v : ℕ → ℕ} {u f k b : ℕ} → Down v k f → Up v u k b → Run v u f b
-meet {v} {f = f} {k} {b} d x =
-    make-run (d .starts) (omega (arith, d .ordered, x .ordered)) (λ i p q. within i p q (decLe i k)) (x .below) (x .stops)
+meet {v} {f = f} {k} {b} lower upper =
+    make-run (lower .starts) (omega (arith, lower .ordered, upper .ordered)) (λ i p q. within i p q (decLe i k)) (upper .below) (upper .stops)
   where
     within : (i : ℕ) → f ≤ i → i ≤ b → Dec (i ≤ k) → v i % 2 ≡ 0
-    within i p q (yes h) = d .vacant i p h
-    within i p q (no h) = x .vacant i (omega arith) q
+    within i p q (yes h) = lower .vacant i p h
+    within i p q (no h) = upper .vacant i (omega arith) q
 
--- slot k is itself the front; slot k + 1 is vacant too
+-- a vacant slot k that is itself the front
 pub down-here : {v : ℕ → ℕ} {k : ℕ} → v k % 2 ≡ 0 → ((j : ℕ) → suc j ≡ k → v j % 2 ≡ 1) → Down v k k
 down-here {v} {k} even starts =
     record { ordered = omega arith; starts = starts; vacant = λ i p q. omega (arith, par v i k (omega arith)) }
 
+-- one vacant slot more above
 pub down-more : {v : ℕ → ℕ} {k f : ℕ} → Down v k f → v (suc k) % 2 ≡ 0 → Down v (suc k) f
 down-more {v} {k} {f} d even =
     record { ordered = omega (arith, d .ordered); starts = d .starts; vacant = λ i p q. within i p q (ℕ-discrete i (suc k)) }
@@ -87,11 +88,12 @@ down-more {v} {k} {f} d even =
     within i p q (yes e) = omega (arith, par v i (suc k) e)
     within i p q (no n) = d .vacant i p (omega arith)
 
--- slot k is itself the back; slot k is vacant where the stretch from k + 1 is
+-- a vacant slot k that is itself the back
 pub up-here : {v : ℕ → ℕ} {u k : ℕ} → k < u → v k % 2 ≡ 0 → (suc k < u → v (suc k) % 2 ≡ 1) → Up v u k k
 up-here {v} {k = k} below even stops =
     record { ordered = omega arith; vacant = λ i p q. omega (arith, par v i k (omega arith)); below = below; stops = stops }
 
+-- one vacant slot more below
 pub up-more : {v : ℕ → ℕ} {u k b : ℕ} → Up v u (suc k) b → v k % 2 ≡ 0 → Up v u k b
 up-more {v} {k = k} {b} x even =
     record { ordered = omega (arith, x .ordered); vacant = λ i p q. within i p q (ℕ-discrete i k); below = x .below; stops = x .stops }
@@ -100,7 +102,7 @@ up-more {v} {k = k} {b} x even =
     within i p q (yes e) = omega (arith, par v i k e)
     within i p q (no n) = x .vacant i (omega arith) q
 
--- every vacant slot has a front below it, and a back above it within d slots
+-- from every vacant slot there is a way down to the front of its run
 down : (v : ℕ → ℕ) (k : ℕ) → v k % 2 ≡ 0 → (f : ℕ) × Down v k f
 down v zero even = (0, down-here even (λ j e. absurd (omega arith)))
 down v (suc k) even = go (ℕ-discrete (v k % 2) 0) (down v k)
@@ -109,6 +111,7 @@ down v (suc k) even = go (ℕ-discrete (v k % 2) 0) (down v k)
     go (yes e) rest = let d = rest e in (d .0, down-more (d .1) even)
     go (no n) rest = (suc k, down-here even (λ j e. omega (arith, par v j k (omega arith))))
 
+-- and a way up to its back, within the d slots that are left below u
 up : (v : ℕ → ℕ) (u d k : ℕ) → k + d ≡ u → k < u → v k % 2 ≡ 0 → (b : ℕ) × Up v u k b
 up v u zero k e low even = absurd (omega arith)
 up v u (suc d) k e low even = go (decLt (suc k) u) (ℕ-discrete (v (suc k) % 2) 0) (up v u d (suc k) (omega arith))

@@ -1,7 +1,7 @@
 -- How often a number stands in a list: membership and no repeats in one count. Assumes nothing.
 use mathlib.Core.Path.{_≡_, refl, sym, ap, subst}
 use mathlib.Core.List.{List, [], _∷_, _++_}
-use Prim.Native.Nat.{ℕ, suc, _+_, _-_, _≤_}
+use Prim.Native.Nat.{ℕ, suc, _+_, _≤_}
 use native.Mathlib.Decide.{ℕ-discrete}
 use native.Mathlib.Omega.{arith}
 use lib.ListN.{length, length-append}
@@ -18,7 +18,7 @@ times-append x [] t = omega arith
 times-append x (y ∷ ys) t = let ih = times-append x ys t in omega arith
 
 -- what lies before x in a list and what after it
-abbrev pub Split : ℕ → List ℕ → Type 0
+abbrev Split : ℕ → List ℕ → Type 0
 Split x l = (a : List ℕ) × (b : List ℕ) × (l ≡ a ++ x ∷ b)
 
 -- a list splits at whatever stands in it
