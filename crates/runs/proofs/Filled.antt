@@ -13,13 +13,15 @@ use Rattle.runs.proofs.Fronts.{Fronts, Ended, same-times}
 
 -- slot b, the back of the run from h, becomes occupied
 module _ (v v′ : ℕ → ℕ) (u h b : ℕ) (run : Run v u h b) (odd′ : v′ b % 2 ≡ 1) (same : (k : ℕ) → k ≢ b → v′ k ≡ v k) where
-  -- slot b is not vacant afterwards, and no front comes right after it, neither before nor afterwards
+  -- a slot that is vacant afterwards is not slot b
   vacant-not-b : (k : ℕ) → v′ k % 2 ≡ 0 → k ≢ b
   vacant-not-b k even t = omega (arith, par v′ k b t)
 
+  -- slot b does not stand right before a front: it was vacant itself
   not-before-front : (k : ℕ) → Front v u k → (m : ℕ) → suc m ≡ k → m ≢ b
   not-before-front k f m e t = omega (arith, f .starts m e, par v m b t, run .vacant b (run .ordered) (omega arith))
 
+  -- nor does it afterwards: the slot after it is not vacant
   not-before-front′ : (k : ℕ) → Front v′ u k → (m : ℕ) → suc m ≡ k → m ≢ b
   not-before-front′ k f m e t =
       let same-k = same k (vacant-not-b k (f .vacant)) in
@@ -33,7 +35,7 @@ module _ (v v′ : ℕ → ℕ) (u h b : ℕ) (run : Run v u h b) (odd′ : v′
   front-still : (k : ℕ) → k ≢ b → Front v u k → Front v′ u k
   front-still k n f = front-kept (f .below) (sym (same k n)) (λ m e. sym (same m (not-before-front k f m e))) f
 
-  -- what the list must be afterwards: slot b is not in it, all others are as before
+  -- the list has the fronts afterwards, where slot b does not stand in it and all others stand as before
   pub filled-fronts : (l l′ : List ℕ) → b ≢ 0 → Fronts v u l
       → ((k : ℕ) → k ≢ b → times k l′ ≡ times k l) → times b l′ ≡ 0 → Fronts v′ u l′
   filled-fronts l l′ not-0 fronts others at-b = record {
@@ -56,18 +58,18 @@ module _ (v v′ : ℕ → ℕ) (u h b : ℕ) (run : Run v u h b) (odd′ : v′
   -- and lies before the run from h to b, unless it lies after it
   run-apart : (f c : ℕ) → Run v′ u f c → suc c ≢ b → (b < f → ⊥) → c < h
   run-apart f c r n m =
-      let overlap : h ≤ c → ⊥ = λ q.
-      let s = run-same v u f c h b (run-before f c r n) run (omega arith) q in
-      vacant-not-b c (r .vacant c (r .ordered) (omega arith)) (s .1) in
+      let same-back : h ≤ c → c ≡ b = λ q. run-same v u f c h b (run-before f c r n) run (omega arith) q .1 in
+      let not-back : c ≢ b = vacant-not-b c (r .vacant c (r .ordered) (omega arith)) in
+      let no-overlap : h ≤ c → ⊥ = λ q. not-back (same-back q) in
       omega arith
 
-  -- the run was slot b alone: all other ends stand
+  -- the run was slot b alone: the ends fit, where those of other slots have not changed
   pub last-ends : (e e′ : ℕ → ℕ) → h ≡ b → ((k : ℕ) → k ≢ b → e′ k ≡ e k) → Ended v u e → Ended v′ u e′
   last-ends e e′ alone others ends f c r =
       let at-back : v′ c % 2 ≡ 0 = r .vacant c (r .ordered) (omega arith) in
       let n : suc c ≢ b = λ t. omega (arith, at-back, same c (λ q. omega arith), run .front .starts c (omega arith)) in
-      let o = ends f c (run-before f c r n) in
-      (others f (vacant-not-b f (r .front .vacant)) ∙ o .0, others c (vacant-not-b c at-back) ∙ o .1)
+      let old = ends f c (run-before f c r n) in
+      (others f (vacant-not-b f (r .front .vacant)) ∙ old .0, others c (vacant-not-b c at-back) ∙ old .1)
 
   -- the run was longer: it ends at the slot d before b
   run-shorter : (d : ℕ) → suc d ≡ b → h ≤ d → Run v′ u h d
@@ -76,7 +78,7 @@ module _ (v v′ : ℕ → ℕ) (u h b : ℕ) (run : Run v u h b) (odd′ : v′
       (λ k p q. omega (arith, run .vacant k p (omega arith), same k (λ x. omega arith))) (omega (arith, run .below))
       (λ q. omega (arith, par v′ (suc d) b t))
 
-  -- its ends stand where they are written, and the others where they stood
+  -- the ends fit, where it has its own written and nothing outside it has changed
   pub back-ends : (e e′ : ℕ → ℕ) (d : ℕ) → suc d ≡ b → h ≤ d → e′ h ≡ d → e′ d ≡ h
       → ((k : ℕ) → k < h → e′ k ≡ e k) → ((k : ℕ) → b < k → e′ k ≡ e k) → Ended v u e → Ended v′ u e′
   back-ends e e′ d eq ordered at-front at-back below above ends f c r = go (ℕ-discrete (suc c) b) (decLt b f)
@@ -86,9 +88,9 @@ module _ (v v′ : ℕ → ℕ) (u h b : ℕ) (run : Run v u h b) (odd′ : v′
           let s = run-same v′ u f c h d r (run-shorter d eq ordered) (omega (arith, r .ordered)) (omega arith) in
           (ap e′ (s .0) ∙ at-front ∙ sym (s .1), ap e′ (s .1) ∙ at-back ∙ sym (s .0))
       go (no n) (yes m) =
-          let o = ends f c (run-before f c r n) in
-          (above f m ∙ o .0, above c (omega (arith, r .ordered)) ∙ o .1)
+          let old = ends f c (run-before f c r n) in
+          (above f m ∙ old .0, above c (omega (arith, r .ordered)) ∙ old .1)
       go (no n) (no m) =
-          let o = ends f c (run-before f c r n) in
+          let old = ends f c (run-before f c r n) in
           let q = run-apart f c r n m in
-          (below f (omega (arith, r .ordered)) ∙ o .0, below c q ∙ o .1)
+          (below f (omega (arith, r .ordered)) ∙ old .0, below c q ∙ old .1)

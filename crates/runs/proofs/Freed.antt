@@ -106,11 +106,11 @@ module _ (v v′ : ℕ → ℕ) (u j : ℕ) (low : suc j < u) (odd : v (suc j) %
     where
       go : Dec (b < f₀) → Dec (b₀ < f) → (e′ f ≡ b) × (e′ b ≡ f)
       go (yes h) _ =
-          let o = ends f b (run-before f b run (λ k p q t. omega arith)) in
-          (below f (omega (arith, run .ordered)) ∙ o .0, below b h ∙ o .1)
+          let old = ends f b (run-before f b run (λ k p q t. omega arith)) in
+          (below f (omega (arith, run .ordered)) ∙ old .0, below b h ∙ old .1)
       go (no n) (yes h) =
-          let o = ends f b (run-before f b run (λ k p q t. omega arith)) in
-          (above f h ∙ o .0, above b (omega (arith, run .ordered)) ∙ o .1)
+          let old = ends f b (run-before f b run (λ k p q t. omega arith)) in
+          (above f h ∙ old .0, above b (omega (arith, run .ordered)) ∙ old .1)
       go (no n) (no m) =
           let s = run-same v′ u f b f₀ b₀ run run₀ (omega arith) (omega arith) in
           (ap e′ (s .0) ∙ at-front ∙ sym (s .1), ap e′ (s .1) ∙ at-back ∙ sym (s .0))

@@ -4,7 +4,7 @@ use mathlib.Core.Logic.{_≢_}
 use mathlib.Core.List.{List}
 use Prim.Native.Nat.{ℕ, suc, _<_, _%_}
 use native.Mathlib.Omega.{arith}
-use Rattle.rules.specs.Runs.{Front}
+use Rattle.rules.specs.Runs.{Front, Run}
 use Rattle.runs.proofs.Runs.{par, make-run, front-kept}
 use Rattle.runs.proofs.Fronts.{Fronts, Ended}
 
@@ -16,12 +16,13 @@ module _ (v v′ : ℕ → ℕ) (u : ℕ) (odd′ : v′ u % 2 ≡ 1) (same : (k
       let not-u : k ≢ u = λ t. omega (arith, par v′ k u t) in
       omega arith
 
-  -- a front was one before, and stays one
+  -- a front was one before
   front-before : (k : ℕ) → Front v′ (suc u) k → Front v u k
   front-before k f =
       let low : k < u = vacant-below k (f .below) (f .vacant) in
       front-kept low (same k low) (λ m e. same m (omega arith)) f
 
+  -- and a front stays one
   front-still : (k : ℕ) → Front v u k → Front v′ (suc u) k
   front-still k f =
       let low : k < u = f .below in
@@ -36,11 +37,16 @@ module _ (v v′ : ℕ → ℕ) (u : ℕ) (odd′ : v′ u % 2 ≡ 1) (same : (k
     only = λ k h. front-still k (fronts .only k h);
   }
 
-  -- and the ends stand, where they stand below u
+  -- a run stood before
+  run-before : (f b : ℕ) → Run v′ (suc u) f b → b < u → Run v u f b
+  run-before f b run low =
+      make-run (front-before f (run .front) .starts) (run .ordered)
+      (λ k p q. omega (arith, run .vacant k p q, same k (omega arith))) low
+      (λ h. omega (arith, run .stops (omega arith), same (suc b) h))
+
+  -- so the ends fit, where those below u have not changed
   pub grown-ends : (e e′ : ℕ → ℕ) → ((k : ℕ) → k < u → e′ k ≡ e k) → Ended v u e → Ended v′ (suc u) e′
   grown-ends e e′ others ends f b run =
       let low : b < u = vacant-below b (run .below) (run .vacant b (run .ordered) (omega arith)) in
-      let o = ends f b (make-run (front-before f (run .front) .starts) (run .ordered)
-      (λ k p q. omega (arith, run .vacant k p q, same k (omega arith))) low
-      (λ q. omega (arith, run .stops (omega arith), same (suc b) q))) in
-      (others f (omega (arith, run .ordered)) ∙ o .0, others b low ∙ o .1)
+      let old = ends f b (run-before f b run low) in
+      (others f (omega (arith, run .ordered)) ∙ old .0, others b low ∙ old .1)

@@ -114,7 +114,7 @@ module _ (v n p e : ℕ → ℕ) (u : ℕ) (l : List ℕ) (L : Linked v n p e u 
 
   -- the right run begins at r, which stands in the chain between a and b
   module _ (a b : List ℕ) (q : l ≡ a ++ r ∷ b) where
-    -- how often a slot stands in it, and that none does twice
+    -- how often a slot stands in the chain, and that none does twice
     times-of : (k : ℕ) → times k l ≡ times k a + (alike k r + times k b)
     times-of k = ap (times k) q ∙ times-append k a (r ∷ b)
 
@@ -125,6 +125,7 @@ module _ (v n p e : ℕ → ℕ) (u : ℕ) (l : List ℕ) (L : Linked v n p e u 
     parts : Seg n p 0 a r × Seg n p r b 0
     parts = seg-split n p 0 a r b 0 (subst (λ (x : List ℕ). Seg n p 0 x 0) q (L .seg))
 
+    -- the run from r
     right-run : Run v u r (e r)
     right-run = run-from L r (L .fronts .only r (omega (arith, times-of r, times-head r b)))
 

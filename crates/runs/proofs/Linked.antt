@@ -21,7 +21,7 @@ module _ {v n p e : ℕ → ℕ} {u : ℕ} {l : List ℕ} (L : Linked v n p e u 
   pub once : (k : ℕ) → times k (0 ∷ l) ≤ 1
   once = fronts-once v u l (L .fronts)
 
-  -- an occupied slot is none in the chain
+  -- a slot in the chain is not an occupied one
   pub listed-not : (k i : ℕ) → v i % 2 ≡ 1 → 1 ≤ times k (0 ∷ l) → k ≢ i
   listed-not k i odd h t = omega (arith, L .fronts .only k h .vacant, par v k i t)
 
@@ -31,10 +31,11 @@ module _ {v n p e : ℕ → ℕ} {u : ℕ} {l : List ℕ} (L : Linked v n p e u 
       let not-once : 1 ≤ times k (0 ∷ l) → ⊥ = λ q. h (L .fronts .only k q) in
       omega arith
 
-  -- from a front a run goes to the other_end there; to a back a run comes from the other_end there
+  -- from a front a run goes to its other_end
   pub run-from : (f : ℕ) → Front v u f → Run v u f (e f)
   run-from f h = let r = front-run v u f h in subst (Run v u f) (sym (L .ends f (r .0) (r .1) .0)) (r .1)
 
+  -- to a back a run comes from its other_end
   pub run-to : (b : ℕ) → b < u → v b % 2 ≡ 0 → (suc b < u → v (suc b) % 2 ≡ 1) → Run v u (e b) b
   run-to b low even stops =
       let r = back-run v u b low even stops in subst (λ (f : ℕ). Run v u f b) (sym (L .ends (r .0) b (r .1) .1)) (r .1)

@@ -22,7 +22,8 @@ make-run {f = f} starts ordered vacant below stops =
     }
 
 -- versions that agree at a slot and at the one before it have the same front there
-pub front-kept : {v v′ : ℕ → ℕ} {u u′ k : ℕ} → k < u′ → v k ≡ v′ k → ((m : ℕ) → suc m ≡ k → v m ≡ v′ m) → Front v u k → Front v′ u′ k
+pub front-kept : {v v′ : ℕ → ℕ} {u u′ k : ℕ} → k < u′ → v k ≡ v′ k → ((m : ℕ) → suc m ≡ k → v m ≡ v′ m)
+    → Front v u k → Front v′ u′ k
 front-kept below here before f =
     record { below = below; vacant = omega (arith, here, f .vacant); starts = λ m e. omega (arith, before m e, f .starts m e) }
 
@@ -68,7 +69,8 @@ pub record Up (v : ℕ → ℕ) (u k b : ℕ) : Type 0 where
 -- the two together are the run
 pub meet : {v : ℕ → ℕ} {u f k b : ℕ} → Down v k f → Up v u k b → Run v u f b
 meet {v} {f = f} {k} {b} lower upper =
-    make-run (lower .starts) (omega (arith, lower .ordered, upper .ordered)) (λ i p q. within i p q (decLe i k)) (upper .below) (upper .stops)
+    make-run (lower .starts) (omega (arith, lower .ordered, upper .ordered))
+    (λ i p q. within i p q (decLe i k)) (upper .below) (upper .stops)
   where
     within : (i : ℕ) → f ≤ i → i ≤ b → Dec (i ≤ k) → v i % 2 ≡ 0
     within i p q (yes h) = lower .vacant i p h
