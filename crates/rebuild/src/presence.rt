@@ -1,6 +1,5 @@
 // The number that rebuild is turned down with: what is lent, then the presence bytes beside the versions.
 ghost use mathlib.Core.Path.{_≡_};
-ghost use lib.ListN.{getD};
 ghost use Rattle.rules.specs.Choice.{someBelow};
 ghost use Rattle.rules.specs.Rebuild.{wrongBit, wrongByte, rebuildNumber};
 use refusals::PASSES;
@@ -10,15 +9,8 @@ use rules::LINK_WORDS;
 use rules::SHAPE;
 use rules::WRONG_PRESENCE;
 use rules::ZERO_OCCUPIED;
+use slots::side::byte_at;
 use slots::words::version;
-
-// The byte of slot i, or 0 where there is none.
-fn byte_at(presence: &[u8], i: u32) -> u8
-    ensures { λ r. ⌜ r ≡ getD (now (presence .entry)) i 0 ⌝ }
-{
-    let at = i as usize;
-    if at < presence.len() { presence[at] } else { 0 }
-}
 
 // A byte that is not 0 or 1, or is not the lowest bit of v, its slot's version.
 fn wrong_bit(byte: u8, v: u32) -> bool

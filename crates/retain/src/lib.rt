@@ -1,7 +1,6 @@
 // Retain: the whole soundness check, then from live slot to live slot, and the ones whose byte is 0 go. hop.rs 603-631
 ghost use mathlib.Core.Path.{_≡_};
 ghost use Prim.Native.Nat.{_-_, _<_, _^_};
-ghost use lib.ListN.{getD};
 ghost use Rattle.rules.specs.Values.{plain, counted, retained};
 ghost use Rattle.rules.specs.Retain.{struckBy, retainNumber, retainRule};
 ghost use Rattle.runs.specs.Scans.{nextSlot, strikeOut, scanStart, scans};
@@ -10,6 +9,7 @@ use remove::remove_at;
 use rules::CountAnswer;
 use rules::Header;
 use rules::Retained;
+use slots::side::byte_at;
 use slots::words::other_end;
 use slots::words::vacant;
 use sound::sound_number;
@@ -18,14 +18,6 @@ use sound::sound_number;
 struct Struck {
     count: u32,
     header: Header,
-}
-
-// Byte i, or 0 past the end.
-fn byte(bytes: &[u8], i: u32) -> u8
-    ensures { λ r. ⌜ r ≡ getD (now (bytes .entry)) i 0 ⌝ }
-{
-    let at = i as usize;
-    if at < bytes.len() { bytes[at] } else { 0 }
 }
 
 // The slot to look at after slot i: the one after it, or, where that is vacant, the one after its run.
@@ -44,7 +36,7 @@ fn strike_out(links: &mut [u32], rows: &mut [u32], struck: Struck, bytes: &[u8],
     requires { ⌜ struck .count < 2 ^ 32 - 1 ⌝ }
     ensures { λ r. ⌜ plain (counted (r .count)) (r .header) (now (links .exit)) (now (rows .exit)) ≡ strikeOut (struckBy (now (bytes .entry))) i (plain (counted (struck .count)) (struck .header) (now (links .entry)) (now (rows .entry))) ⌝ }
 {
-    if byte(bytes, i) != 0 {
+    if byte_at(bytes, i) != 0 {
         return struck;
     }
     let before = struck.header;

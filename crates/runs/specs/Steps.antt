@@ -20,7 +20,7 @@ pub record Step : Type 0 where
   pub row : List ℕ
   pub machine : Machine
 
--- an answer with no row, and nothing changed
+-- an answer with no row, and the machine that is left
 abbrev pub stays : Machine → Values → Step
 stays m a = record { answer = a; row = zeroRow; machine = m }
 

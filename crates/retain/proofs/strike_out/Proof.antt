@@ -5,12 +5,12 @@ use borrow.Author.Needs.{needs}
 use Rattle.retain.proofs.strike_out.Statement.{statement}
 use Rattle.retain.proofs.strike_out.Tie as tie
 
-byte-requires : tie.Need-byte-requires
-byte-requires c κs = search needs
+byte-at-requires : tie.Need-byte-at-requires
+byte-at-requires c κs = search needs
 
 returns : tie.Need-returns
 unfolding strikeOut
-returns c = simp (ne-eqb _ _ (c .if1 .taken), ← c .before .byte .ensures)
+returns c = simp (ne-eqb _ _ (c .if1 .taken), ← c .before .byte-at .ensures)
 
 remove-at-requires : tie.Need-remove-at-requires
 remove-at-requires c κs = search needs
@@ -29,11 +29,11 @@ unfolding strikeOut
 returns-2 c =
     simp (
       eq-eqb _ _ (c .before .before .before .before .before .before .before .before .before .before .if1 .left),
-      ← c .before .before .before .before .before .before .before .before .before .before .before .byte .ensures,
+      ← c .before .before .before .before .before .before .before .before .before .before .before .byte-at .ensures,
       ← c .before .before .before .before .before .before .remove-at .ensures,
     )
 
 pub strike-out-spec : {M : Type 1} → statement M
 strike-out-spec =
     tie.close
-    (tie.spec byte-requires returns remove-at-requires add-t15 same-length same-length-2 returns-2)
+    (tie.spec byte-at-requires returns remove-at-requires add-t15 same-length same-length-2 returns-2)

@@ -1,11 +1,11 @@
--- `retain::byte` meets its contract. Assumes nothing.
+-- `slots::side::byte_at` meets its contract. Assumes nothing.
 use mathlib.Core.Path.{sym}
 use native.Mathlib.Omega.{arith}
 use denote.Ref.{now}
 use lib.ListN.{List·getD-eq-default}
 use borrow.Author.Needs.{needs}
-use Rattle.retain.proofs.byte.Statement.{statement}
-use Rattle.retain.proofs.byte.Tie as tie
+use Rattle.slots.proofs.side.byte_at.Statement.{statement}
+use Rattle.slots.proofs.side.byte_at.Tie as tie
 
 shared-slice-read-result : tie.Need-shared-slice-read-result
 shared-slice-read-result c = search needs
@@ -18,5 +18,5 @@ returns-2 c =
     let a = c .before .args in
     sym (List·getD-eq-default (now (a .bytes)) 0 {n = a .i} (omega arith))
 
-pub byte-spec : {M : Type 1} → statement M
-byte-spec = tie.close (tie.spec shared-slice-read-result returns returns-2)
+pub byte-at-spec : {M : Type 1} → statement M
+byte-at-spec = tie.close (tie.spec shared-slice-read-result returns returns-2)
