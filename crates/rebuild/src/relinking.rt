@@ -1,11 +1,11 @@
 // Relinking: the versions and n give next, prev, other_end and the header. Each pass goes once over the slots below n.
 ghost use mathlib.Core.Path.{_≡_};
 ghost use Rattle.rules.specs.Rebuild.{unlinked, chainRun, chainSlot, chainSlots, closed, relinked};
+use parity::is_back;
+use parity::is_front;
+use parity::odd_count;
 use rules::Header;
 use slots::headers::rebuilt;
-use slots::parity::is_back;
-use slots::parity::is_front;
-use slots::parity::odd_count;
 use slots::words::set_next;
 use slots::words::set_other_end;
 use slots::words::set_prev;

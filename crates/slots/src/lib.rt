@@ -2,7 +2,6 @@
 // A read at or past used gives zero and touches nothing; a write past the end changes nothing.
 pub mod choice;
 pub mod headers;
-pub mod parity;
 pub mod rows;
 pub mod side;
 pub mod words;

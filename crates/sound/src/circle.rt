@@ -3,9 +3,9 @@ ghost use mathlib.Core.Path.{_≡_};
 ghost use Rattle.rules.specs.Words.{versionAt};
 ghost use Rattle.rules.specs.Runs.{runCount};
 ghost use Rattle.rules.specs.Check.{mayFollow, circleTest};
+use parity::is_front;
 use slots::choice::both;
 use slots::choice::one_if;
-use slots::parity::is_front;
 use slots::words::next;
 use slots::words::prev;
 

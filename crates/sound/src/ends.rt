@@ -4,8 +4,8 @@ ghost use Prim.Native.Nat.{_+_, _<_};
 ghost use Rattle.rules.specs.Choice.{pick};
 ghost use Rattle.rules.specs.Words.{versionAt, vacantBy};
 ghost use Rattle.rules.specs.Check.{meetAt, endsTest};
+use parity::is_back;
 use slots::choice::both;
-use slots::parity::is_back;
 use slots::words::other_end;
 use slots::words::vacant;
 

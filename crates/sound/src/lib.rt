@@ -8,6 +8,7 @@ ghost use Rattle.rules.specs.Check.{soundTest, soundNumber, checkRule};
 use circle::circle_closes;
 use circle::run_count;
 use ends::ends_meet;
+use parity::odd_count;
 use refusals::PASSES;
 use refusals::entry_number;
 use refusals::or_if;
@@ -15,7 +16,6 @@ use rules::DAMAGED;
 use rules::Header;
 use rules::Numbered;
 use slots::choice::both;
-use slots::parity::odd_count;
 use slots::words::version;
 
 // The table is sound.

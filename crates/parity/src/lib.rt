@@ -2,11 +2,11 @@
 ghost use mathlib.Core.Path.{_≡_};
 ghost use Rattle.rules.specs.Words.{versionAt};
 ghost use Rattle.rules.specs.Runs.{pastFront, isFront, isBack, oddCount};
-use crate::choice::both;
-use crate::choice::one_below;
-use crate::choice::one_if;
-use crate::words::vacant;
-use crate::words::version;
+use slots::choice::both;
+use slots::choice::one_below;
+use slots::choice::one_if;
+use slots::words::vacant;
+use slots::words::version;
 
 // Slot i is vacant, and so is the one before it.
 pub fn past_front(links: &[u32], used: u32, i: u32) -> bool

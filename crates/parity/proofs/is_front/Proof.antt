@@ -1,9 +1,9 @@
--- `slots::parity::is_front` meets its contract. Assumes nothing.
+-- `parity::is_front` meets its contract. Assumes nothing.
 use Rattle.rules.specs.Words.{vacantAt}
 use Rattle.rules.specs.Runs.{isFront}
 use borrow.Author.Needs.{needs}
-use Rattle.slots.proofs.parity.is_front.Statement.{statement}
-use Rattle.slots.proofs.parity.is_front.Tie as tie
+use Rattle.parity.proofs.is_front.Statement.{statement}
+use Rattle.parity.proofs.is_front.Tie as tie
 
 vacant-requires : tie.Need-vacant-requires
 vacant-requires c κs = search needs

@@ -1,10 +1,10 @@
--- `slots::parity::is_back` meets its contract. Assumes nothing.
+-- `parity::is_back` meets its contract. Assumes nothing.
 use Rattle.rules.specs.Words.{vacantAt}
 use Rattle.rules.specs.Runs.{isBack}
 use borrow.Author.Tests.{le-ltb}
 use borrow.Author.Needs.{needs}
-use Rattle.slots.proofs.parity.is_back.Statement.{statement}
-use Rattle.slots.proofs.parity.is_back.Tie as tie
+use Rattle.parity.proofs.is_back.Statement.{statement}
+use Rattle.parity.proofs.is_back.Tie as tie
 
 returns : tie.Need-returns
 unfolding isBack

@@ -1,9 +1,9 @@
--- `slots::parity::past_front` meets its contract. Assumes nothing.
+-- `parity::past_front` meets its contract. Assumes nothing.
 use Rattle.rules.specs.Words.{vacantAt}
 use Rattle.rules.specs.Runs.{pastFront}
 use borrow.Author.Needs.{needs}
-use Rattle.slots.proofs.parity.past_front.Statement.{statement}
-use Rattle.slots.proofs.parity.past_front.Tie as tie
+use Rattle.parity.proofs.past_front.Statement.{statement}
+use Rattle.parity.proofs.past_front.Tie as tie
 
 one-below-requires : tie.Need-one-below-requires
 one-below-requires c κs = search needs

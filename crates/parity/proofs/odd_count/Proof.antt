@@ -1,4 +1,4 @@
--- `slots::parity::odd_count` meets its contract. The loop's invariant: the count so far is that of the slots passed. Assumes nothing.
+-- `parity::odd_count` meets its contract. The loop's invariant: the count so far is that of the slots passed. Assumes nothing.
 use Rattle.rules.specs.Choice.{countBelow}
 use Rattle.rules.specs.Words.{isOdd, versionAt}
 use Rattle.rules.proofs.Below.{count-on}
@@ -6,8 +6,8 @@ use Prim.Native.Nat.{ℕ, _-_, _≤_}
 use mathlib.Core.Path.{_≡_}
 use native.Mathlib.Omega.{arith}
 use borrow.Author.Needs.{needs}
-use Rattle.slots.proofs.parity.odd_count.Statement.{statement}
-use Rattle.slots.proofs.parity.odd_count.Tie as tie
+use Rattle.parity.proofs.odd_count.Statement.{statement}
+use Rattle.parity.proofs.odd_count.Tie as tie
 
 abbrev Inv-loop : tie.InvT-loop
 Inv-loop links used count₀ i₀ count i = (i ≤ used) × (count ≡ countBelow i (λ (j : ℕ). isOdd (versionAt links used j)))
