@@ -1,5 +1,5 @@
 -- The chosen removed in rising order, for any choice, on the machine: what is left, and how many went. Assumes nothing.
-use mathlib.Core.Path.{_≡_, refl, sym, ap, _∙_, subst}
+use mathlib.Core.Path.{_≡_, refl, sym, ap, _∙_}
 use mathlib.Core.Logic.{_≢_}
 use mathlib.Core.Bool.{Bool, true, false}
 use Prim.Native.Nat.{ℕ, zero, suc, _+_, _-_, _≤_, _<_, _%_}
@@ -9,7 +9,7 @@ use lib.Dec.{ltb}
 use borrow.Author.Tests.{lt-ltb, le-ltb}
 use Rattle.rules.specs.Choice.{pick, both}
 use Rattle.rules.specs.Words.{zeroRow, isOdd, rise, occupiedBy}
-use Rattle.rules.proofs.Choice.{by-test, both-true}
+use Rattle.rules.proofs.Choice.{by-pick, both-true}
 use Rattle.rules.proofs.SlotTests.{occupied-is}
 use Rattle.runs.specs.Points.{put}
 use Rattle.runs.specs.Machine.{Machine, liveOf}
@@ -61,9 +61,10 @@ module _ (chosen : ℕ → Bool) (m : Machine) where
   at-slot : (i n : ℕ) → i ≡ n → goes i ≡ goes n
   at-slot i n e = ap goes e
 
-  left-gone : (n : ℕ) (s : Tally) → Left n s → goes n ≡ true → Left (suc n) (record { count = s .count + 1; machine = freedOn (s .machine) n })
+  left-gone : (n : ℕ) (s : Tally) → Left n s → (c : ℕ) → c ≡ s .count + 1 → goes n ≡ true →
+      Left (suc n) (record { count = c; machine = freedOn (s .machine) n })
   unfolding freedOn
-  left-gone n s k e =
+  left-gone n s k c one e =
       record {
         versions = λ i. ver i (ℕ-discrete i n);
         rows = λ i. row i (ℕ-discrete i n);
@@ -119,9 +120,6 @@ module _ (chosen : ℕ → Bool) (m : Machine) where
       }
   left (suc n) = go (removeChosenOn chosen n m) (left n)
     where
-      gone : Tally → Tally
-      gone s = record { count = s .count + 1; machine = freedOn (s .machine) n }
-
       same-test : (s : Tally) → Left n s → both (occupiedBy (s .machine .versions) (s .machine .used) n) (chosen n) ≡ goes n
       same-test s k =
           let version : s .machine .versions n ≡ m .versions n = k .versions n ∙ not-yet n n (rise (m .versions n)) (m .versions n) (omega arith) in
@@ -130,5 +128,6 @@ module _ (chosen : ℕ → Bool) (m : Machine) where
 
       go : (s : Tally) → Left n s → Left (suc n) (removeIfOn chosen n s)
       go s k =
-          subst (λ (t : Bool). Left (suc n) (pick t (gone s) s)) (sym (same-test s k))
-          (by-test (λ (t : Bool). Left (suc n) (pick t (gone s) s)) (goes n) (left-gone n s k) (left-kept n s k))
+          by-pick (Left (suc n)) _ _ s
+          (λ e. left-gone n s k _ (omega arith) (sym (same-test s k) ∙ e))
+          (λ e. left-kept n s k (sym (same-test s k) ∙ e))
