@@ -1,26 +1,10 @@
 // The chain is one circle: from slot 0 over the front of every run, and back.
 ghost use mathlib.Core.Path.{_≡_};
-ghost use Rattle.rules.specs.Words.{versionAt};
-ghost use Rattle.rules.specs.Runs.{runCount};
 ghost use Rattle.rules.specs.Check.{mayFollow, circleTest};
 use parity::is_front;
 use slots::choice::both;
-use slots::choice::one_if;
 use slots::words::next;
 use slots::words::prev;
-
-// How many runs there are.
-pub fn run_count(links: &[u32], used: u32) -> u32
-    ensures { λ r. ⌜ r ≡ runCount (versionAt (now (links .entry)) used) used ⌝ }
-{
-    let mut count: u32 = 0;
-    let mut i: u32 = 0;
-    while i < used {
-        count += one_if(is_front(links, used, i));
-        i += 1;
-    }
-    count
-}
 
 // From slot x the chain may go on to slot y: a front, whose prev undoes the step.
 fn may_follow(links: &[u32], used: u32, x: u32, y: u32) -> bool

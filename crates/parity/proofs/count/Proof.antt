@@ -1,27 +1,28 @@
--- `sound::circle::run_count` meets its contract. The loop's invariant: the count so far is that of the slots passed. Assumes nothing.
-use Rattle.rules.specs.Choice.{countBelow}
-use Rattle.rules.specs.Words.{versionAt}
+-- `parity::count` meets its contract. The loop's invariant: the count so far is that of the slots passed. Assumes nothing.
+use Rattle.rules.specs.Choice.{pick, countBelow}
+use Rattle.rules.specs.Words.{isOdd, versionAt}
 use Rattle.rules.specs.Runs.{isFront}
 use Rattle.rules.proofs.Below.{count-on}
-use Prim.Native.Nat.{_-_, _≤_}
+use Prim.Native.Nat.{ℕ, _-_, _≤_}
 use mathlib.Core.Path.{_≡_}
 use native.Mathlib.Omega.{arith}
 use borrow.Author.Needs.{needs}
-use Rattle.sound.proofs.circle.run_count.Statement.{statement}
-use Rattle.sound.proofs.circle.run_count.Tie as tie
+use Rattle.parity.proofs.count.Statement.{statement}
+use Rattle.parity.proofs.count.Tie as tie
 
 abbrev Inv-loop : tie.InvT-loop
-Inv-loop links used count₀ i₀ count i = (i ≤ used) × (count ≡ countBelow i (isFront (versionAt links used) used))
+Inv-loop links used fronts count₀ i₀ count i =
+    (i ≤ used) × (count ≡ countBelow i (λ (j : ℕ). pick fronts (isFront (versionAt links used) used j) (isOdd (versionAt links used j))))
 
 abbrev μ-loop : tie.MeasureT-loop
-μ-loop links used count₀ i₀ count i = used - i
+μ-loop links used fronts count₀ i₀ count i = used - i
 
 loop-holds : tie.Need-loop-holds Inv-loop μ-loop
 unfolding countBelow
 loop-holds c = search needs
 
-is-front-requires : tie.Need-is-front-requires Inv-loop μ-loop
-is-front-requires c κs = search needs
+counted-requires : tie.Need-counted-requires Inv-loop μ-loop
+counted-requires c κs = search needs
 
 one-if-requires : tie.Need-one-if-requires Inv-loop μ-loop
 one-if-requires c κs = search needs
@@ -45,14 +46,14 @@ returns c =
     let all : c .before .loop .i ≡ c .before .before .before .args .used = omega arith in
     rw all at (c .before .loop .inv .1)
 
-pub run-count-spec : {M : Type 1} → statement M
-run-count-spec =
+pub count-spec : {M : Type 1} → statement M
+count-spec =
     tie.close
     (tie.spec
     Inv-loop
     μ-loop
     loop-holds
-    is-front-requires
+    counted-requires
     one-if-requires
     add-count
     add-i
