@@ -1,2 +1,5 @@
 pub mod Live
 pub mod Paths
+pub mod Books
+pub mod Counted
+pub mod Becoming

@@ -72,6 +72,15 @@ odd-but-two v (suc n) i j o l g h = go (ℕ-discrete j n) (odd-but-two v n i j)
     go (yes e) r = omega (arith, odd-more v n, odd-but-one v n i (omega arith) g, ap (λ (x : ℕ). v x % 2) e)
     go (no m) r = omega (arith, odd-more v n, r o (omega arith) g h)
 
+-- where nothing but slot 0 is vacant all the others count
+pub odd-but-zero : (v : ℕ → ℕ) (n : ℕ) → 0 < n → v 0 % 2 ≡ 0 → ((k : ℕ) → 0 < k → k < n → v k % 2 ≡ 1) → oddCount v n + 1 ≡ n
+odd-but-zero v zero p z h = absurd (omega arith)
+odd-but-zero v (suc n) p z h = go (ℕ-discrete n 0) (odd-but-zero v n)
+  where
+    go : Dec (n ≡ 0) → (0 < n → v 0 % 2 ≡ 0 → ((k : ℕ) → 0 < k → k < n → v k % 2 ≡ 1) → oddCount v n + 1 ≡ n) → oddCount v (suc n) + 1 ≡ suc n
+    go (yes e) r = omega (arith, odd-more v n, odd-none-yet v, ap (oddCount v) e, ap (λ (x : ℕ). v x % 2) e)
+    go (no m) r = omega (arith, odd-more v n, h n (omega arith) (omega arith), r (omega arith) z (λ k a b. h k a (omega arith)))
+
 -- an occupied slot counts
 pub odd-some : (v : ℕ → ℕ) (n i : ℕ) → i < n → v i % 2 ≡ 1 → 1 ≤ oddCount v n
 odd-some v zero i l h = absurd (omega arith)

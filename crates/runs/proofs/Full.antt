@@ -34,7 +34,7 @@ module _ (v : ℕ → ℕ) (u : ℕ) (l : List ℕ) (i : Fronts v u l) where
       on (x ∷ m) = omega (arith, alike-same x x refl)
 
   -- the run that the next row would go to
-  place-run : Run v u (first l) (backOf v u (first l))
+  pub place-run : Run v u (first l) (backOf v u (first l))
   place-run = run-from v u (first l) first-front
 
   no-chain : first l ≡ 0 → l ≡ []

@@ -1,0 +1,72 @@
+-- Slots in use, event by event: there are as many as before, or as rows are live now and slot 0, whichever is more. Assumes nothing.
+use mathlib.Core.Path.{_≡_, refl, ap, _∙_}
+use mathlib.Core.Logic.{_≢_}
+use mathlib.Core.List.{List}
+use Prim.Native.Nat.{ℕ, suc, _+_, _<_, _%_, max}
+use native.Mathlib.Decide.{decLt}
+use native.Mathlib.Omega.{arith}
+use Rattle.rules.specs.Words.{rise}
+use Rattle.rules.specs.Runs.{oddCount}
+use Rattle.rules.specs.declared.Key.{Key}
+use Rattle.runs.specs.Points.{put}
+use Rattle.runs.specs.Machine.{Machine, liveOf}
+use Rattle.runs.proofs.Points.{put-same, put-other}
+use Rattle.runs.proofs.Counts.{odd-more, odd-same, odd-but-one}
+use Rattle.runs.proofs.DrainMachine.{Headed}
+use Rattle.history.specs.Events.{Event, handed, removed, wrote}
+use Rattle.history.proofs.Live.{Live}
+use Rattle.history.proofs.Paths.{Hands, Happens}
+use Rattle.history.proofs.Books.{changed-here, changed-not}
+
+-- no slot is lost, and none is added beyond what the live rows need
+abbrev pub Slots : Machine → Machine → Type 0
+Slots m m′ = m′ .used ≡ max (m .used) (suc (liveOf m′))
+
+-- slot 0 is not live
+pub some-vacant : (m : Machine) → Headed m → liveOf m < m .used
+some-vacant m z = omega (arith, odd-but-one (m .versions) (m .used) 0 (z .positive) (z .even))
+
+pub same-slots : (m m′ : Machine) → Headed m′ → m′ .used ≡ m .used → Slots m m′
+same-slots m m′ z e = omega (arith, some-vacant m′ z)
+
+-- slot 0 stays vacant
+live-past-zero : (m : Machine) (k : Key) → Headed m → Live m k → 0 ≢ k .index
+live-past-zero m k z a e = omega (arith, z .even, a .odd, ap (λ (x : ℕ). x % 2) (a .same), ap (λ (x : ℕ). m .versions x % 2) e)
+
+pub still-headed : (m : Machine) (e : Event) (m′ : Machine) → Happens m e m′ → Headed m → Headed m′
+still-headed m (handed k row) m′ h z =
+    record {
+      positive = omega (arith, h .used);
+      even = ap (λ (x : ℕ). x % 2) (changed-not _ _ _ _ (h .versions) 0 (λ e. omega (arith, h .past-zero))) ∙ z .even;
+    }
+still-headed m (removed k) m′ h z =
+    record {
+      positive = omega (arith, h .used, z .positive);
+      even = ap (λ (x : ℕ). x % 2) (changed-not _ _ _ _ (h .versions) 0 (live-past-zero m k z (h .live))) ∙ z .even;
+    }
+still-headed m (wrote k row) m′ h z =
+    record { positive = omega (arith, h .used, z .positive); even = ap (λ (f : ℕ → ℕ). f 0 % 2) (h .versions) ∙ z .even }
+
+-- a key handed out for a new slot: then every slot but slot 0 is live
+new-slot : (m : Machine) (k : Key) (row : List ℕ) (m′ : Machine) → Hands m k row m′ → k .index ≡ m .used → liveOf m′ ≡ m .used
+new-slot m k row m′ h e =
+    let u : m′ .used ≡ suc (m .used) = omega (arith, h .used) in
+    omega (
+      arith,
+      ap (oddCount (m′ .versions)) u,
+      odd-more (m′ .versions) (m .used),
+      odd-same (m .versions) (m′ .versions) (m .used) (λ j q. changed-not _ _ _ _ (h .versions) j (λ t. omega arith)),
+      ap (λ (x : ℕ). m′ .versions x % 2) e,
+      ap (λ (x : ℕ). x % 2) (changed-here _ _ _ _ (h .versions)),
+      h .odd,
+      h .needed e,
+    )
+
+pub slots-after : (m : Machine) (e : Event) (m′ : Machine) → Happens m e m′ → Headed m → Slots m m′
+slots-after m (handed k row) m′ h z = go (decLt (k .index) (m .used))
+  where
+    go : Dec (k .index < m .used) → Slots m m′
+    go (yes q) = same-slots m m′ (still-headed m (handed k row) m′ h z) (omega (arith, h .used))
+    go (no q) = let e : k .index ≡ m .used = omega (arith, h .low) in omega (arith, h .used, new-slot m k row m′ h e)
+slots-after m (removed k) m′ h z = same-slots m m′ (still-headed m (removed k) m′ h z) (h .used)
+slots-after m (wrote k row) m′ h z = same-slots m m′ (still-headed m (wrote k row) m′ h z) (h .used)
