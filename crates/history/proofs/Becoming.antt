@@ -117,5 +117,5 @@ module _ (chosen : ℕ → Bool) (m : Machine) where
     struck-is =
         by-test (λ (t : Bool). chosen i ≡ t → pick t [] (lookOn m k) ≡ lookOn end k) (chosen i) (λ _ e. sym (look-dead end k (dead e))) (λ _ e. kept e) refl
 
-  pub all-chosen : Headed m → Headed end → Becomes m (allRemoved chosen (m .versions) (m .used) (m .used)) (struck (λ x. chosen (x .index)) (lookOn m)) end
-  all-chosen z z′ = record { path = chosen-path (m .used); has = fun-ext struck-is; slots = same-slots m end z′ (left chosen m (m .used) .used) }
+  pub all-chosen : Headed end → Becomes m (allRemoved chosen (m .versions) (m .used) (m .used)) (struck (λ x. chosen (x .index)) (lookOn m)) end
+  all-chosen z = record { path = chosen-path (m .used); has = fun-ext struck-is; slots = same-slots m end z (left chosen m (m .used) .used) }

@@ -3,3 +3,4 @@ pub mod Paths
 pub mod Books
 pub mod Counted
 pub mod Becoming
+pub mod Reduced

@@ -4,6 +4,7 @@ use mathlib.Core.List.{List, [], _∷_, _++_}
 use mathlib.Core.Bool.{Bool, true}
 use Rattle.rules.specs.Choice.{pick, both, alike}
 use Rattle.rules.specs.Words.{versionAt, occupiedBy}
+use Rattle.rules.specs.Values.{Values}
 use Rattle.rules.specs.Retain.{struckBy}
 use Rattle.rules.specs.declared.Key.{Key}
 use Rattle.history.specs.Calls.{Call, begin, ask, insert, remove, write, replace, drain, clear, retain}
@@ -25,20 +26,22 @@ allRemoved chosen v used (suc n) =
 abbrev pub chosenRemoved : (ℕ → Bool) → Table → List Event
 chosenRemoved chosen t = allRemoved chosen (versionAt (t .links) (t .header .used)) (t .header .used) (t .header .used)
 
-abbrev pub eventsOf : Table → Call → List Event
-eventsOf t (begin b) = []
-eventsOf t (ask q) = []
-eventsOf t (insert side) = let a = answer t (insert side) in ifGiven (a .kind) (handed (a .key) side ∷ []) []
-eventsOf t (remove k) = unlessRefused (answer t (remove k) .kind) (removed k ∷ []) []
-eventsOf t (write k row) = unlessRefused (answer t (write k row) .kind) (wrote k (row .words) ∷ []) []
-eventsOf t (replace k side) = unlessRefused (answer t (replace k side) .kind) (wrote k side ∷ []) []
-eventsOf t drain = let a = answer t drain in ifGiven (a .kind) (removed (a .key) ∷ []) []
-eventsOf t clear = unlessRefused (answer t clear .kind) (chosenRemoved (λ i. true) t) []
-eventsOf t (retain bytes) = unlessRefused (answer t (retain bytes) .kind) (chosenRemoved (struckBy bytes) t) []
+-- what happens in a call, told by its answer; only where all or the chosen go, the table is asked which were live
+abbrev pub happening : Table → Call → Values → List Event
+happening t (begin b) a = []
+happening t (ask q) a = []
+happening t (insert side) a = ifGiven (a .kind) (handed (a .key) side ∷ []) []
+happening t (remove k) a = unlessRefused (a .kind) (removed k ∷ []) []
+happening t (write k row) a = unlessRefused (a .kind) (wrote k (row .words) ∷ []) []
+happening t (replace k side) a = unlessRefused (a .kind) (wrote k side ∷ []) []
+happening t drain a = ifGiven (a .kind) (removed (a .key) ∷ []) []
+happening t clear a = unlessRefused (a .kind) (chosenRemoved (λ i. true) t) []
+happening t (retain bytes) a = unlessRefused (a .kind) (chosenRemoved (struckBy bytes) t) []
 
+-- all that happens in calls, in order
 abbrev pub events : Table → List Call → List Event
 events t [] = []
-events t (c ∷ cs) = eventsOf t c ++ events (next t c) cs
+events t (c ∷ cs) = happening t c (answer t c) ++ events (next t c) cs
 
 -- the book after an event, and after all of them
 abbrev pub told : Event → Book → Book

@@ -1,0 +1,180 @@
+-- Each call, on a table that is a machine, comes down to its events: one lemma a call. Assumes nothing.
+use mathlib.Core.Path.{_≡_, refl, sym, ap, subst}
+use mathlib.Core.Logic.{_≢_}
+use mathlib.Core.List.{List}
+use mathlib.Core.Bool.{Bool}
+use Prim.Native.Nat.{ℕ}
+use native.Mathlib.Omega.{arith}
+use lib.ListN.{length}
+use lib.Dec.{eqb}
+use borrow.Author.Tests.{eqb-true, eqb-false}
+use Rattle.rules.specs.Words.{rowWords, withBit}
+use Rattle.rules.specs.Values.{Values, done, refused}
+use Rattle.rules.specs.Refusals.{passes, sideNumber}
+use Rattle.rules.specs.Retain.{struckBy}
+use Rattle.rules.specs.declared.Key.{Key}
+use Rattle.rules.proofs.Choice.{by-pick}
+use Rattle.runs.specs.Machine.{Machine, liveOf, keyOf}
+use Rattle.runs.specs.Steps.{Step, stays, stepUnless, place, grownBy, filledBy, insertNumberOn, insertOn, keyNumberOn, takenOut, removeOn, lookOn, written, replaceOn, hopOn, lowest, drainOn}
+use Rattle.runs.specs.WholeTable.{removeChosenOn, all, clearOn, retainOn, checkOn, roomOn}
+use Rattle.runs.specs.Tables.{Shows, Does}
+use Rattle.runs.proofs.Counts.{odd-but-zero}
+use Rattle.runs.proofs.Fronts.{Fronts}
+use Rattle.runs.proofs.Sound.{linked}
+use Rattle.runs.proofs.Shown.{unless-does}
+use Rattle.runs.proofs.Inserted.{insert-does}
+use Rattle.runs.proofs.Removed.{key-live, key-number-is, remove-does}
+use Rattle.runs.proofs.Hopped.{hop-does}
+use Rattle.runs.proofs.DrainMachine.{Headed, lowest-live}
+use Rattle.runs.proofs.Drained.{headed, drain-does}
+use Rattle.runs.proofs.Chosen.{chosen-does, check-does, clear-does, retain-does}
+use Rattle.runs.proofs.Accessed.{room-does, written-shows, replace-does}
+use Rattle.runs.proofs.Full.{place-run, none-vacant}
+use Rattle.history.specs.Calls.{Row, Question, number, look, hop, check, room, Call, ask, insert, remove, write, replace, drain, clear, retain}
+use Rattle.history.specs.Histories.{Table, outcome, answer, next}
+use Rattle.history.specs.Bystander.{struck, noted}
+use Rattle.history.specs.Events.{Event, removed, wrote, allRemoved, chosenRemoved, happening}
+use Rattle.history.proofs.Live.{Live, live-is, passes-live}
+use Rattle.history.proofs.Paths.{Hands, Writes}
+use Rattle.history.proofs.Becoming.{Becomes, nothing, one-event, freed-removes, all-chosen}
+
+abbrev pub Stands : Table → Machine → Type 0
+Stands t m = Shows (t .links) (t .rows) (t .header) m
+
+pub record Reduces (t : Table) (m : Machine) (c : Call) : Type 0 where
+  pub machine : Machine
+  pub stands : Stands (next t c) machine
+  pub becomes : Becomes m (happening t c (answer t c)) (noted c (answer t c) (lookOn m)) machine
+
+module _ (t : Table) (m : Machine) (s : Shows (t .links) (t .rows) (t .header) m) where
+  z : Headed m
+  z = headed (t .links) (t .rows) (t .header) m s
+
+  -- what a step's answer tells is what becomes of the machine
+  abbrev Tells : Call → Step → Type 0
+  Tells c x = Becomes m (happening t c (x .answer)) (noted c (x .answer) (lookOn m)) (x .machine)
+
+  reduced : (c : Call) (x : Step) → Does (outcome t c) x → Tells c x → Reduces t m c
+  reduced c x d b =
+      record {
+        machine = x .machine;
+        stands = d .shows;
+        becomes = subst (λ (a : Values). Becomes m (happening t c a) (noted c a (lookOn m)) (x .machine)) (sym (d .answer)) b;
+      }
+
+  fronts : Fronts (m .versions) (m .used) (m .fronts)
+  fronts = subst (λ (x : Machine). Fronts (x .versions) (x .used) (x .fronts)) (s .same) (linked (t .links) (t .header) (s .sound) .fronts)
+
+  -- insert: a new slot only where no other is vacant, else the vacant slot at the first run's back
+  grown-hands : (side : List ℕ) → place m ≡ 0 → Hands m (record { index = m .used; version = 1 }) side (grownBy m side .machine)
+  unfolding grownBy
+  grown-hands side e =
+      record {
+        low = omega arith;
+        past-zero = z .positive;
+        odd = refl;
+        vacant = λ q. absurd (omega arith);
+        version = λ q. absurd (omega arith);
+        needed = λ _. odd-but-zero (m .versions) (m .used) (z .positive) (z .even) (none-vacant (m .versions) (m .used) (m .fronts) fronts e);
+        versions = refl;
+        rows = refl;
+        used = omega arith;
+      }
+
+  filled-hands : (side : List ℕ) → place m ≢ 0 →
+      Hands m (record { index = place m; version = withBit (m .versions (place m)) }) side (filledBy m side (place m) .machine)
+  unfolding filledBy
+  filled-hands side n =
+      let run = place-run (m .versions) (m .used) (m .fronts) fronts in
+      let even = run .vacant (place m) (run .ordered) (omega arith) in
+      record {
+        low = omega (arith, run .below);
+        past-zero = omega (arith, n);
+        odd = omega arith;
+        vacant = λ q. even;
+        version = λ q. refl;
+        needed = λ e. absurd (omega (arith, run .below));
+        versions = refl;
+        rows = refl;
+        used = omega (arith, run .below);
+      }
+
+  -- a call that its number turns down, where nothing happens, or whose step happens
+  unless-tells : (c : Call) (n : ℕ) (x : Step) → Tells c (stays m (refused n)) → (n ≡ 0 → Tells c x) → Tells c (stepUnless m n x)
+  unless-tells c n x still h = by-pick (Tells c) (eqb n 0) x (stays m (refused n)) (λ e. h (eqb-true n 0 e)) (λ _. still)
+
+  pub insert-reduces : (side : List ℕ) → Reduces t m (insert side)
+  unfolding insertOn grownBy filledBy
+  insert-reduces side =
+      reduced (insert side) (insertOn m side) (insert-does _ _ _ m s side)
+      (unless-tells (insert side) (insertNumberOn m side) _ (nothing m z)
+      (λ _. by-pick (Tells (insert side)) (eqb (place m) 0) (grownBy m side) (filledBy m side (place m))
+      (λ e. one-event m z _ _ (grown-hands side (eqb-true _ _ e)))
+      (λ e. one-event m z _ _ (filled-hands side (eqb-false _ _ e)))))
+
+  pub remove-reduces : (k : Key) → Reduces t m (remove k)
+  unfolding removeOn
+  remove-reduces k =
+      reduced (remove k) (removeOn m k) (remove-does _ _ _ m s k)
+      (unless-tells (remove k) (keyNumberOn passes m k) (takenOut m k) (nothing m z)
+      (λ e. one-event m z (removed k) _ (freed-removes m k (passes-live m k e))))
+
+  -- a row written through its live key, in place and by replace
+  written-writes : (k : Key) (row : List ℕ) → Live m k → Writes m k row (written m (k .index) row)
+  unfolding written
+  written-writes k row a = record { live = a; versions = refl; rows = refl; used = refl }
+
+  write-does : (k : Key) (row : Row) → Does (outcome t (write k row)) (stepUnless m (keyNumberOn passes m k) (stays (written m (k .index) (row .words)) done))
+  write-does k row =
+      unless-does _ _ _ m s _ _ (key-number-is _ _ _ m s k) _ _
+      (λ e. record { answer = refl; row = refl; shows = written-shows _ _ _ m s (k .index) (row .words) (passes-live m k e .low) (row .eight) })
+
+  pub write-reduces : (k : Key) (row : Row) → Reduces t m (write k row)
+  write-reduces k row =
+      reduced (write k row) (stepUnless m (keyNumberOn passes m k) _) (write-does k row)
+      (unless-tells (write k row) (keyNumberOn passes m k) _ (nothing m z)
+      (λ e. one-event m z (wrote k (row .words)) _ (written-writes k (row .words) (passes-live m k e))))
+
+  pub replace-reduces : (k : Key) (side : List ℕ) → Reduces t m (replace k side)
+  unfolding replaceOn
+  replace-reduces k side =
+      reduced (replace k side) (replaceOn m k side) (replace-does _ _ _ m s k side)
+      (unless-tells (replace k side) (keyNumberOn (sideNumber passes (length side) rowWords) m k) _ (nothing m z)
+      (λ e. one-event m z (wrote k side) _ (written-writes k side (live-is m k (key-live _ m k e .1)))))
+
+  -- the drain step removes the lowest live slot
+  pub drain-reduces : Reduces t m drain
+  unfolding drainOn
+  drain-reduces =
+      reduced drain (drainOn m) (drain-does _ _ _ m s)
+      (by-pick (Tells drain) (eqb (liveOf m) 0) (stays m done) (takenOut m (keyOf m (lowest m))) (λ _. nothing m z)
+      (λ e.
+      let some : liveOf m ≢ 0 = eqb-false (liveOf m) 0 e in
+      let low = lowest-live m z (omega (arith, some)) in
+      one-event m z (removed (keyOf m (lowest m))) _ (freed-removes m (keyOf m (lowest m)) (record { low = low .0; odd = low .1; same = refl }))))
+
+  -- clear and retain remove the chosen
+  chosen-tells : (chosen : ℕ → Bool) →
+      Becomes m (chosenRemoved chosen t) (struck (λ k. chosen (k .index)) (lookOn m)) (removeChosenOn chosen (m .used) m .machine)
+  chosen-tells chosen =
+      subst (λ (es : List Event). Becomes m es (struck (λ k. chosen (k .index)) (lookOn m)) (removeChosenOn chosen (m .used) m .machine))
+      (sym (ap (λ (x : Machine). allRemoved chosen (x .versions) (x .used) (x .used)) (s .same)))
+      (all-chosen chosen m (headed _ _ _ _ (chosen-does chosen _ _ _ m s (m .used) .shows)))
+
+  pub clear-reduces : Reduces t m clear
+  unfolding clearOn
+  clear-reduces = reduced clear (clearOn m) (clear-does _ _ _ m s) (chosen-tells all)
+
+  pub retain-reduces : (bytes : List ℕ) → Reduces t m (retain bytes)
+  unfolding retainOn
+  retain-reduces bytes =
+      reduced (retain bytes) (retainOn m bytes) (retain-does _ _ _ m s bytes)
+      (unless-tells (retain bytes) (sideNumber passes (length bytes) (m .used)) _ (nothing m z) (λ _. chosen-tells (struckBy bytes)))
+
+  -- questions
+  pub ask-reduces : (q : Question) → Reduces t m (ask q)
+  ask-reduces (number k) = record { machine = m; stands = s; becomes = nothing m z }
+  ask-reduces (look k) = record { machine = m; stands = s; becomes = nothing m z }
+  ask-reduces (hop c) = reduced (ask (hop c)) (hopOn m c) (hop-does _ _ _ m s c) (nothing m z)
+  ask-reduces check = reduced (ask check) (checkOn m) (check-does _ _ _ m s) (nothing m z)
+  ask-reduces room = reduced (ask room) (roomOn m) (room-does _ _ _ m s) (nothing m z)
