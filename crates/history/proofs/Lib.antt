@@ -4,3 +4,4 @@ pub mod Books
 pub mod Counted
 pub mod Becoming
 pub mod Reduced
+pub mod Beginnings

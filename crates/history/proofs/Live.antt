@@ -33,10 +33,13 @@ module _ (m : Machine) (k : Key) where
       let b = both-true (isOdd (k .version)) _ (a .1) in
       record { low = ltb-true _ _ (a .0); odd = eqb-true _ _ (b .0); same = eqb-true _ _ (b .1) }
 
+  pub live-yes : Live m k → liveBy (m .versions) (m .used) k ≡ true
+  live-yes a = simp (lt-ltb _ _ (a .low), eq-eqb _ _ (a .odd), eq-eqb _ _ (a .same))
+
   pub live-passes : Live m k → keyNumberOn passes m k ≡ 0
   unfolding keyNumberOn _▸_
   live-passes a =
-      simp (lt-ltb _ _ (a .low), eq-eqb _ _ (a .odd), eq-eqb _ _ (a .same), ne-eqb (k .version % 2) 0 (λ z. omega (arith, a .odd)))
+      simp (live-yes a, ne-eqb (k .version % 2) 0 (λ z. omega (arith, a .odd)))
 
   pub passes-live : keyNumberOn passes m k ≡ 0 → Live m k
   passes-live e = live-is (key-live passes m k e .1)

@@ -3,7 +3,9 @@ use Prim.Native.Nat.{ℕ}
 use mathlib.Core.List.{List, [], _∷_}
 use mathlib.Core.Path.{_≡_}
 use Rattle.rules.specs.Values.{refuses, Values, Outcome}
+use Rattle.rules.specs.Access.{lookRule}
 use Rattle.rules.specs.declared.Header.{Header}
+use Rattle.rules.specs.declared.Key.{Key}
 use Rattle.history.specs.Calls.{Beginning, beginRule, Call, begin, ask, insert, remove, write, replace, drain, clear, retain, rule}
 
 -- both tables and the header that goes with them
@@ -24,6 +26,10 @@ answer t c = outcome t c .answer
 
 abbrev pub next : Table → Call → Table
 next t c = left (outcome t c)
+
+-- what look hands out for a key: the words of its row, or none
+abbrev pub looked : Table → Key → List ℕ
+looked t k = lookRule (t .links) (t .rows) (t .header) k
 
 -- the table after calls, and their answers
 abbrev pub after : Table → List Call → Table
