@@ -8,3 +8,7 @@ refilled v = withBit (rise v)
 unfoldable pub refilledTimes : ℕ → ℕ → ℕ
 refilledTimes zero v = v
 refilledTimes (suc n) v = refilled (refilledTimes n v)
+
+-- after so many removals, half the numbers of 32 bits, an odd version comes round
+abbrev pub round : ℕ
+round = 2147483648
