@@ -1,18 +1,19 @@
--- The theorems, call by call: on a sound table each rule is the machine's step and leaves a sound table; none gives 2; and two
--- tables that are one machine answer alike and stay one machine, whatever stands inside their runs and in the links of occupied
--- slots. Assumes nothing.
-use mathlib.Core.Path.{_≡_, sym, ap, _∙_, subst, fun-ext}
+-- The theorems, call by call: on a sound table each rule is the machine's step and leaves a sound table; which numbers it can give,
+-- never 2 among them; and two tables that are one machine answer alike and stay one machine, whatever stands inside their runs and
+-- in the links of occupied slots. Assumes nothing.
+use mathlib.Core.Path.{_≡_, refl, sym, _∙_, subst, fun-ext}
 use mathlib.Core.Logic.{_≢_}
-use mathlib.Core.List.{List}
-use mathlib.Core.Bool.{Bool}
-use Prim.Native.Nat.{ℕ, _+_}
-use native.Mathlib.Omega.{arith}
+use mathlib.Core.List.{List, [], _∷_}
+use mathlib.Core.Bool.{Bool, false}
+use Prim.Native.Nat.{ℕ}
 use lib.ListN.{length}
-use lib.Dec.{leb, eqb}
-use Rattle.rules.specs.Words.{rowWords, versionAt, nextAt, prevAt, rowAt, occupiedBy}
-use Rattle.rules.specs.Values.{Values, Outcome, refused, unless}
-use Rattle.rules.specs.Refusals.{_▸_, passes, shape, damaged, evenVersion, notLive, full, wrongPresence, zeroOccupied, lentNumber, shapeNumber, sideNumber}
-use Rattle.rules.specs.Runs.{Front, pastFront}
+use lib.Dec.{eqb}
+use borrow.Author.Tests.{eqb-false}
+use Rattle.rules.specs.Choice.{pick}
+use Rattle.rules.specs.Words.{versionAt, nextAt, prevAt, rowAt}
+use Rattle.rules.specs.Values.{Values, Outcome, unless}
+use Rattle.rules.specs.Refusals.{_▸_, shape, evenVersion, notLive, full, staleCursor, wrongPresence, zeroOccupied, lentNumber, shapeNumber, sideNumber}
+use Rattle.rules.specs.Runs.{Front}
 use Rattle.rules.specs.Sound.{Sound}
 use Rattle.rules.specs.Start.{startRule, roomRule}
 use Rattle.rules.specs.Access.{keyNumber, lookRule, replaceRule}
@@ -27,10 +28,10 @@ use Rattle.rules.specs.Rebuild.{rebuildNumber, rebuildRule}
 use Rattle.rules.specs.declared.Header.{Header}
 use Rattle.rules.specs.declared.Key.{Key}
 use Rattle.rules.proofs.Choice.{by-pick}
-use Rattle.runs.specs.Machine.{Machine, liveOf, backOf, machineOf}
-use Rattle.runs.specs.Steps.{Step, stays, stepUnless, keyNumberOn, place, insertNumberOn, grownBy, filledBy, insertOn, removeOn, replaceOn, hopAnswerOn, hopOn, drainOn}
+use Rattle.runs.specs.Machine.{Machine, machineOf}
+use Rattle.runs.specs.Steps.{Step, keyNumberOn, insertNumberOn, grownBy, filledBy, insertOn, removeOn, replaceOn, hopAnswerOn, hopOn, drainOn}
 use Rattle.runs.specs.WholeTable.{clearOn, retainOn, checkOn, roomOn}
-use Rattle.runs.specs.Tables.{Shows, Simulates, NeverGives, SameAnswer}
+use Rattle.runs.specs.Tables.{Shows, Simulates, oneOf, Only, GivesOnly, SameAnswer}
 use Rattle.runs.proofs.Segments.{seg-agree}
 use Rattle.runs.proofs.Sound.{linked, off-zero}
 use Rattle.runs.proofs.Shown.{header-is}
@@ -114,111 +115,75 @@ module _ (l r l′ r′ : List ℕ) (hd : Header) (s : Sound l hd) (t : Sound l�
       one-answer call step sim l r l′ r′ hd hd m (checked-shows l r hd e s)
       (subst (Shows l′ r′ hd) (sym same-machine) (checked-shows l′ r′ hd e′ t))
 
--- 2 is never given: the machine has no chain that names it
-abbrev NotTwo : ℕ → Type 0
-NotTwo n = n ≢ damaged
+-- the numbers that each call can give; any other is never given
+pub never : (ks : List ℕ) (n bad : ℕ) → Only ks n → oneOf (0 ∷ ks) bad ≡ false → n ≢ bad
+never ks n bad h f e = eqb-false 0 1 refl (cc)
 
-chain-never : (n k : ℕ) (t : Bool) → NotTwo n → NotTwo k → NotTwo (n ▸ (t, k))
+-- a chain gives what it names; a choice of steps, and a call behind its number, what either gives
+chain-only : (ks : List ℕ) (n k : ℕ) (t : Bool) → Only ks n → Only ks k → Only ks (n ▸ (t, k))
 unfolding _▸_
-chain-never n k t h j =
-    by-pick NotTwo (eqb n 0) _ _ (λ _. by-pick NotTwo t k 0 (λ _. j) (λ _ e. absurd (omega arith))) (λ _. h)
+chain-only ks n k t h j = by-pick (Only ks) (eqb n 0) _ _ (λ _. by-pick (Only ks) t k 0 (λ _. j) (λ _. record { listed = refl })) (λ _. h)
 
-unless-never : (m : Machine) (n : ℕ) (s : Step) → NotTwo n → NotTwo (s .answer .number) → NotTwo (stepUnless m n s .answer .number)
-unless-never m n s h j = by-pick (λ (x : Step). NotTwo (x .answer .number)) (eqb n 0) s (stays m (refused n)) (λ _. j) (λ _. h)
+step-only : (ks : List ℕ) (t : Bool) (s s′ : Step) → Only ks (s .answer .number) → Only ks (s′ .answer .number) → Only ks (pick t s s′ .answer .number)
+step-only ks t s s′ h j = by-pick (λ (x : Step). Only ks (x .answer .number)) t s s′ (λ _. h) (λ _. j)
 
-side-never : (n asked : ℕ) → NotTwo (sideNumber passes n asked)
-unfolding sideNumber
-side-never n asked = chain-never passes shape _ (λ e. omega arith) (λ e. omega arith)
+pub unless-only : (ks l r : List ℕ) (hd : Header) (n : ℕ) (o : Outcome) → Only ks n → Only ks (o .answer .number) → Only ks (unless l r hd n o .answer .number)
+unfolding unless
+unless-only ks l r hd n o h j = by-pick (λ (x : Outcome). Only ks (x .answer .number)) (eqb n 0) _ _ (λ _. j) (λ _. h)
 
-key-never : (n : ℕ) (m : Machine) (k : Key) → NotTwo n → NotTwo (keyNumberOn n m k)
-unfolding keyNumberOn
-key-never n m k h = chain-never _ notLive _ (chain-never n evenVersion _ h (λ e. omega arith)) (λ e. omega arith)
-
-lent-never : (links rows : ℕ) → NotTwo (lentNumber links rows)
-unfolding lentNumber
-lent-never links rows =
-    chain-never _ shape _ (chain-never _ shape _ (chain-never _ shape _ (chain-never _ shape _ (chain-never passes shape _ none one) one) one) one) one
-  where
-    none : NotTwo passes
-    none e = omega arith
-
-    one : NotTwo shape
-    one e = omega arith
-
-never : (call : List ℕ → List ℕ → Header → Outcome) (step : Machine → Step) → Simulates call step →
-    ((m : Machine) → NotTwo (step m .answer .number)) → NeverGives damaged call
-never call step sim h l r hd e s q =
+-- a call gives what the machine's step gives
+only : (ks : List ℕ) (call : List ℕ → List ℕ → Header → Outcome) (step : Machine → Step) → Simulates call step →
+    ((m : Machine) → Only ks (step m .answer .number)) → GivesOnly ks call
+only ks call step sim h l r hd e s =
     let m = machineOf l r hd (s .circle .after) in
-    h m (sym (ap (λ (v : Values). v .number) (sim l r hd m (checked-shows l r hd e s) .answer)) ∙ q)
+    subst (λ (v : Values). Only ks (v .number)) (sym (sim l r hd m (checked-shows l r hd e s) .answer)) (h m)
 
-pub insert-never-2 : (side : List ℕ) → NeverGives damaged (λ l r hd. insertRule l r hd side)
-unfolding insertOn insertNumberOn grownBy filledBy
-insert-never-2 side =
-    never _ (λ m. insertOn m side) (insert-simulates side) (λ m.
-    unless-never m (insertNumberOn m side) _ (chain-never _ full _ (side-never _ _) (λ e. omega arith))
-    (by-pick (λ (x : Step). NotTwo (x .answer .number)) (eqb (place m) 0) (grownBy m side) (filledBy m side (place m)) (λ _ e. omega arith) (λ _ e. omega arith)))
+pub insert-only : (side : List ℕ) → GivesOnly (shape ∷ full ∷ []) (λ l r hd. insertRule l r hd side)
+unfolding insertOn insertNumberOn sideNumber grownBy filledBy
+insert-only side = only _ _ _ (insert-simulates side) (λ m. search (step-only, chain-only))
 
-pub remove-never-2 : (k : Key) → NeverGives damaged (λ l r hd. removeRule l r hd k)
-unfolding removeOn
-remove-never-2 k =
-    never _ (λ m. removeOn m k) (remove-simulates k) (λ m. unless-never m (keyNumberOn passes m k) _ (key-never passes m k (λ e. omega arith)) (λ e. omega arith))
+pub remove-only : (k : Key) → GivesOnly (evenVersion ∷ notLive ∷ []) (λ l r hd. removeRule l r hd k)
+unfolding removeOn keyNumberOn
+remove-only k = only _ _ _ (remove-simulates k) (λ m. search (step-only, chain-only))
 
-pub replace-never-2 : (k : Key) (side : List ℕ) → NeverGives damaged (λ l r hd. replaceRule l r hd k side)
-unfolding replaceOn
-replace-never-2 k side =
-    never _ (λ m. replaceOn m k side) (replace-simulates k side) (λ m.
-    unless-never m (keyNumberOn (sideNumber passes (length side) rowWords) m k) _ (key-never _ m k (side-never _ _)) (λ e. omega arith))
+pub replace-only : (k : Key) (side : List ℕ) → GivesOnly (shape ∷ evenVersion ∷ notLive ∷ []) (λ l r hd. replaceRule l r hd k side)
+unfolding replaceOn keyNumberOn sideNumber
+replace-only k side = only _ _ _ (replace-simulates k side) (λ m. search (step-only, chain-only) depth 7)
 
-pub hop-never-2 : (c : ℕ) → NeverGives damaged (λ l r hd. hopRule l r hd c)
+pub hop-only : (c : ℕ) → GivesOnly (staleCursor ∷ []) (λ l r hd. hopRule l r hd c)
 unfolding hopAnswerOn
-hop-never-2 c =
-    never _ (λ m. hopOn m c) (hop-simulates c) (λ m.
-    by-pick Fine (leb (m .used) c) _ _ (λ _ e. omega arith)
-    (λ _. by-pick Fine (occupiedBy (m .versions) (m .used) c) _ _ (λ _ e. omega arith)
-    (λ _. by-pick Fine (pastFront (m .versions) (m .used) c) _ _ (λ _ e. omega arith)
-    (λ _. by-pick Fine (eqb (backOf (m .versions) (m .used) c + 1) (m .used)) _ _ (λ _ e. omega arith) (λ _ e. omega arith)))))
-  where
-    Fine : Values → Type 0
-    Fine v = NotTwo (v .number)
+hop-only c = only _ _ _ (hop-simulates c) (λ m. search (by-pick (λ (v : Values). Only (staleCursor ∷ []) (v .number))))
 
-pub drain-never-2 : NeverGives damaged drainRule
+pub drain-only : GivesOnly [] drainRule
 unfolding drainOn
-drain-never-2 =
-    never _ drainOn drain-simulates (λ m.
-    by-pick (λ (x : Step). NotTwo (x .answer .number)) (eqb (liveOf m) 0) _ _ (λ _ e. omega arith) (λ _ e. omega arith))
+drain-only = only _ _ _ drain-simulates (λ m. search step-only)
 
-pub clear-never-2 : NeverGives damaged clearRule
+pub clear-only : GivesOnly [] clearRule
 unfolding clearOn
-clear-never-2 = never _ clearOn clear-simulates (λ m e. omega arith)
+clear-only = only _ _ _ clear-simulates (λ m. search)
 
-pub retain-never-2 : (bytes : List ℕ) → NeverGives damaged (λ l r hd. retainRule l r hd bytes)
-unfolding retainOn
-retain-never-2 bytes =
-    never _ (λ m. retainOn m bytes) (retain-simulates bytes) (λ m. unless-never m (sideNumber passes (length bytes) (m .used)) _ (side-never _ _) (λ e. omega arith))
+pub retain-only : (bytes : List ℕ) → GivesOnly (shape ∷ []) (λ l r hd. retainRule l r hd bytes)
+unfolding retainOn sideNumber
+retain-only bytes = only _ _ _ (retain-simulates bytes) (λ m. search (step-only, chain-only))
 
-pub check-never-2 : NeverGives damaged checkRule
-check-never-2 = never _ checkOn check-simulates (λ m e. omega arith)
+pub check-only : GivesOnly [] checkRule
+check-only = only _ _ _ check-simulates (λ m. search)
 
-pub room-never-2 : NeverGives damaged roomRule
-room-never-2 = never _ roomOn room-simulates (λ m e. omega arith)
+pub room-only : GivesOnly [] roomRule
+room-only = only _ _ _ room-simulates (λ m. search)
 
-pub key-number-never-2 : (l r : List ℕ) (hd : Header) → shapeNumber l r hd ≡ 0 → Sound l hd → (k : Key) → keyNumber l r hd k ≡ damaged → ⊥
-key-number-never-2 l r hd e s k q =
+pub key-number-only : (l r : List ℕ) (hd : Header) → shapeNumber l r hd ≡ 0 → Sound l hd → (k : Key) → Only (evenVersion ∷ notLive ∷ []) (keyNumber l r hd k)
+unfolding keyNumberOn
+key-number-only l r hd e s k =
     let m = machineOf l r hd (s .circle .after) in
-    key-never passes m k (λ z. omega arith) (sym (key-number-is l r hd m (checked-shows l r hd e s) k) ∙ q)
+    subst (Only (evenVersion ∷ notLive ∷ [])) (sym (key-number-is l r hd m (checked-shows l r hd e s) k)) (search chain-only)
 
--- start and rebuild name it nowhere
-pub start-never-2 : (l r : List ℕ) (hd : Header) → startRule l r hd .answer .number ≡ damaged → ⊥
-unfolding startRule unless lentNumber
-start-never-2 l r hd =
-    by-pick (λ (o : Outcome). NotTwo (o .answer .number)) (eqb (lentNumber (length l) (length r)) 0) _ _ (λ _ e. omega arith) (λ _. lent-never (length l) (length r))
+-- start and rebuild, on any words
+pub start-only : (l r : List ℕ) (hd : Header) → Only (shape ∷ []) (startRule l r hd .answer .number)
+unfolding startRule lentNumber
+start-only l r hd = search (unless-only, chain-only) depth 8
 
-pub rebuild-never-2 : (l r : List ℕ) (hd : Header) (bytes : List ℕ) → rebuildRule l r hd bytes .answer .number ≡ damaged → ⊥
-unfolding rebuildRule unless rebuildNumber
-rebuild-never-2 l r hd bytes =
-    by-pick (λ (o : Outcome). NotTwo (o .answer .number)) (eqb (rebuildNumber l r bytes) 0) _ _ (λ _ e. omega arith)
-    (λ _.
-    chain-never _ zeroOccupied _
-    (chain-never _ wrongPresence _
-    (chain-never _ shape _ (chain-never _ shape _ (lent-never (length l) (length r)) (λ e. omega arith)) (λ e. omega arith)) (λ e. omega arith))
-    (λ e. omega arith))
+pub rebuild-only : (l r : List ℕ) (hd : Header) (bytes : List ℕ) →
+    Only (shape ∷ wrongPresence ∷ zeroOccupied ∷ []) (rebuildRule l r hd bytes .answer .number)
+unfolding rebuildRule rebuildNumber lentNumber
+rebuild-only l r hd bytes = search (unless-only, chain-only) depth 12
