@@ -4,5 +4,6 @@ pub mod Books
 pub mod Counted
 pub mod Ages
 pub mod Becoming
+pub mod Refusing
 pub mod Reduced
 pub mod Beginnings

@@ -1,7 +1,7 @@
 -- Full is exactly: used = lent, and nothing but slot 0 vacant. Assumes nothing.
 use mathlib.Core.Path.{_≡_, refl, sym, ap, _∙_, subst}
 use mathlib.Core.List.{List, [], _∷_}
-use Prim.Native.Nat.{ℕ, _-_, _≤_, _<_, _%_}
+use Prim.Native.Nat.{ℕ, _≤_, _<_, _%_}
 use native.Mathlib.Decide.{ℕ-discrete}
 use native.Mathlib.Omega.{arith}
 use lib.ListN.{length}
@@ -16,7 +16,7 @@ use Rattle.rules.specs.declared.Header.{Header}
 use Rattle.rules.proofs.Full.{full-only}
 use Rattle.runs.specs.Machine.{Machine, first, backOf}
 use Rattle.runs.specs.Steps.{place, insertNumberOn, insertOn}
-use Rattle.runs.specs.Tables.{Shows}
+use Rattle.runs.specs.Tables.{Shows, NoneVacant}
 use Rattle.runs.proofs.Points.{alike-same, alike-other}
 use Rattle.runs.proofs.Runs.{in-a-run}
 use Rattle.runs.proofs.Fronts.{Fronts, fronts-once}
@@ -71,10 +71,6 @@ module _ (v : ℕ → ℕ) (u : ℕ) (l : List ℕ) (i : Fronts v u l) where
       go : Dec (backOf v u (first l) ≡ 0) → backOf v u (first l) ≡ 0
       go (yes e) = e
       go (no n) = absurd (omega (arith, place-run .vacant (backOf v u (first l)) (place-run .ordered) (omega arith), h (backOf v u (first l)) (omega arith) (place-run .below)))
-
--- nothing but slot 0 is vacant
-abbrev pub NoneVacant : List ℕ → ℕ → Type 0
-NoneVacant l used = (i : ℕ) → 0 < i → i < used → versionAt l used i % 2 ≡ 1
 
 -- the call
 module _ (l r : List ℕ) (hd : Header) (m : Machine) (s : Shows l r hd m) (side : List ℕ) where

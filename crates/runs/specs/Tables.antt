@@ -1,10 +1,11 @@
 -- A table of words and the machine that it is; a call of the rules and the machine's step that it is; which numbers a call can give.
-use Prim.Native.Nat.{ℕ}
+use Prim.Native.Nat.{ℕ, _<_, _%_}
 use mathlib.Core.List.{List, [], _∷_}
 use mathlib.Core.Bool.{Bool, true, false}
 use mathlib.Core.Path.{_≡_}
 use lib.Dec.{eqb}
 use Rattle.rules.specs.Choice.{either}
+use Rattle.rules.specs.Words.{versionAt}
 use Rattle.rules.specs.Values.{Outcome}
 use Rattle.rules.specs.Refusals.{shapeNumber}
 use Rattle.rules.specs.Sound.{Sound}
@@ -17,6 +18,10 @@ pub record Shows (l r : List ℕ) (hd : Header) (m : Machine) : Type 0 where
   pub shaped : shapeNumber l r hd ≡ 0
   pub sound : Sound l hd
   pub same : machineOf l r hd (sound .circle .after) ≡ m
+
+-- nothing but slot 0 is vacant
+abbrev pub NoneVacant : List ℕ → ℕ → Type 0
+NoneVacant l used = (i : ℕ) → 0 < i → i < used → versionAt l used i % 2 ≡ 1
 
 -- the call answers what the step answers, and leaves a sound table of the right shape that is the machine the step leaves
 pub record Does (o : Outcome) (s : Step) : Type 0 where
