@@ -13,7 +13,7 @@ use Rattle.runs.specs.Points.{put}
 use Rattle.runs.proofs.Points.{alike-same, alike-other, put-same, put-other}
 use Rattle.history.specs.Events.{Event, handed, removed, wrote, sees, seen}
 use Rattle.history.specs.Versions.{refilledTimes, round}
-use Rattle.history.proofs.Live.{Live}
+use Rattle.history.proofs.Live.{same-key, Live}
 use Rattle.history.proofs.Paths.{Hands, Happens, Path}
 
 -- x is the version of a slot that had the odd version w, n removals later
@@ -97,8 +97,7 @@ module _ (m : Machine) (k : Key) (es : List Event) (m′ : Machine) (p : Path m 
   pub handed-again : k .version < 2 ^ 32 → seen (k .index) (removed k ∷ es) ≡ round →
       (x : Key) (row : List ℕ) (m″ : Machine) → Hands m′ x row m″ → x .index ≡ k .index → x ≡ k
   handed-again b n x row m″ h e =
-      let v = h .version (omega (arith, aged .0)) ∙ ap (λ (j : ℕ). withBit (m′ .versions j)) e ∙ came-round b n in
-      λ t. record { index = e t; version = v t }
+      same-key x k e (h .version (omega (arith, aged .0)) ∙ ap (λ (j : ℕ). withBit (m′ .versions j)) e ∙ came-round b n)
 
 -- the version alone
 pub refilled-is : (n w : ℕ) → w % 2 ≡ 1 → w < 2 ^ 32 → refilledTimes n w ≡ (w + 2 * n) % 2 ^ 32

@@ -18,8 +18,7 @@ use Rattle.runs.proofs.Removed.{key-live}
 
 -- a key is its slot and its version
 pub same-key : (k x : Key) → k .index ≡ x .index → k .version ≡ x .version → k ≡ x
-same-key k x i w =
-    ap (λ (n : ℕ). record { index = n; version = k .version }) i ∙ ap (λ (n : ℕ). record { index = x .index; version = n }) w
+same-key k x i w = λ t. record { index = i t; version = w t }
 
 pub record Live (m : Machine) (k : Key) : Type 0 where
   pub low : k .index < m .used

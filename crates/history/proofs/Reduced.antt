@@ -30,13 +30,15 @@ use Rattle.runs.proofs.Drained.{headed, drain-does}
 use Rattle.runs.proofs.Chosen.{chosen-does, check-does, clear-does, retain-does}
 use Rattle.runs.proofs.Accessed.{room-does, written-shows, replace-does}
 use Rattle.runs.proofs.Full.{place-run, none-vacant}
-use Rattle.history.specs.Calls.{Row, Question, number, look, hop, check, room, Call, ask, insert, remove, write, replace, drain, clear, retain}
-use Rattle.history.specs.Histories.{Table, outcome, answer, next}
+use Rattle.history.specs.Calls.{Row, Beginning, Question, number, look, hop, check, room, Call, begin, ask, insert, remove, write, replace, drain, clear, retain}
+use Rattle.history.specs.Histories.{Table, outcome, answer, next, Refused, GoesOn}
 use Rattle.history.specs.Bystander.{struck, noted}
 use Rattle.history.specs.Events.{Event, removed, wrote, allRemoved, chosenRemoved, happening}
+use Rattle.history.specs.Refusals.{Numbers}
 use Rattle.history.proofs.Live.{Live, live-is, passes-live}
 use Rattle.history.proofs.Paths.{Hands, Writes}
 use Rattle.history.proofs.Becoming.{Becomes, nothing, one-event, freed-removes, all-chosen}
+use Rattle.history.proofs.Refusing.{insert-numbers, remove-numbers, write-numbers, replace-numbers, drain-numbers, clear-numbers, retain-numbers, begin-numbers, ask-numbers}
 
 abbrev pub Stands : Table → Machine → Type 0
 Stands t m = Shows (t .links) (t .rows) (t .header) m
@@ -45,6 +47,7 @@ pub record Reduces (t : Table) (m : Machine) (c : Call) : Type 0 where
   pub machine : Machine
   pub stands : Stands (next t c) machine
   pub becomes : Becomes m (happening t c (answer t c)) (noted c (answer t c) (lookOn m)) machine
+  pub numbers : Numbers t c
 
 module _ (t : Table) (m : Machine) (s : Shows (t .links) (t .rows) (t .header) m) where
   z : Headed m
@@ -54,12 +57,13 @@ module _ (t : Table) (m : Machine) (s : Shows (t .links) (t .rows) (t .header) m
   abbrev Tells : Call → Step → Type 0
   Tells c x = Becomes m (happening t c (x .answer)) (noted c (x .answer) (lookOn m)) (x .machine)
 
-  reduced : (c : Call) (x : Step) → Does (outcome t c) x → Tells c x → Reduces t m c
-  reduced c x d b =
+  reduced : (c : Call) (x : Step) → Numbers t c → Does (outcome t c) x → Tells c x → Reduces t m c
+  reduced c x n d b =
       record {
         machine = x .machine;
         stands = d .shows;
         becomes = subst (λ (a : Values). Becomes m (happening t c a) (noted c a (lookOn m)) (x .machine)) (sym (d .answer)) b;
+        numbers = n;
       }
 
   fronts : Fronts (m .versions) (m .used) (m .fronts)
@@ -106,7 +110,7 @@ module _ (t : Table) (m : Machine) (s : Shows (t .links) (t .rows) (t .header) m
   pub insert-reduces : (side : List ℕ) → Reduces t m (insert side)
   unfolding insertOn grownBy filledBy
   insert-reduces side =
-      reduced (insert side) (insertOn m side) (insert-does _ _ _ m s side)
+      reduced (insert side) (insertOn m side) (insert-numbers t m s side) (insert-does _ _ _ m s side)
       (unless-tells (insert side) (insertNumberOn m side) _ (nothing m z)
       (λ _. by-pick (Tells (insert side)) (eqb (place m) 0) (grownBy m side) (filledBy m side (place m))
       (λ e. one-event m z _ _ (grown-hands side (eqb-true _ _ e)))
@@ -115,7 +119,7 @@ module _ (t : Table) (m : Machine) (s : Shows (t .links) (t .rows) (t .header) m
   pub remove-reduces : (k : Key) → Reduces t m (remove k)
   unfolding removeOn
   remove-reduces k =
-      reduced (remove k) (removeOn m k) (remove-does _ _ _ m s k)
+      reduced (remove k) (removeOn m k) (remove-numbers t m s k) (remove-does _ _ _ m s k)
       (unless-tells (remove k) (keyNumberOn passes m k) (takenOut m k) (nothing m z)
       (λ e. one-event m z (removed k) _ (freed-removes m k (passes-live m k e))))
 
@@ -131,14 +135,14 @@ module _ (t : Table) (m : Machine) (s : Shows (t .links) (t .rows) (t .header) m
 
   pub write-reduces : (k : Key) (row : Row) → Reduces t m (write k row)
   write-reduces k row =
-      reduced (write k row) (stepUnless m (keyNumberOn passes m k) _) (write-does k row)
+      reduced (write k row) (stepUnless m (keyNumberOn passes m k) _) (write-numbers t m s k row) (write-does k row)
       (unless-tells (write k row) (keyNumberOn passes m k) _ (nothing m z)
       (λ e. one-event m z (wrote k (row .words)) _ (written-writes k (row .words) (passes-live m k e))))
 
   pub replace-reduces : (k : Key) (side : List ℕ) → Reduces t m (replace k side)
   unfolding replaceOn
   replace-reduces k side =
-      reduced (replace k side) (replaceOn m k side) (replace-does _ _ _ m s k side)
+      reduced (replace k side) (replaceOn m k side) (replace-numbers t m s k side) (replace-does _ _ _ m s k side)
       (unless-tells (replace k side) (keyNumberOn (sideNumber passes (length side) rowWords) m k) _ (nothing m z)
       (λ e. one-event m z (wrote k side) _ (written-writes k side (live-is m k (key-live _ m k e .1)))))
 
@@ -146,7 +150,7 @@ module _ (t : Table) (m : Machine) (s : Shows (t .links) (t .rows) (t .header) m
   pub drain-reduces : Reduces t m drain
   unfolding drainOn
   drain-reduces =
-      reduced drain (drainOn m) (drain-does _ _ _ m s)
+      reduced drain (drainOn m) (drain-numbers t m s) (drain-does _ _ _ m s)
       (by-pick (Tells drain) (eqb (liveOf m) 0) (stays m done) (takenOut m (keyOf m (lowest m))) (λ _. nothing m z)
       (λ e.
       let some : liveOf m ≢ 0 = eqb-false (liveOf m) 0 e in
@@ -163,18 +167,36 @@ module _ (t : Table) (m : Machine) (s : Shows (t .links) (t .rows) (t .header) m
 
   pub clear-reduces : Reduces t m clear
   unfolding clearOn
-  clear-reduces = reduced clear (clearOn m) (clear-does _ _ _ m s) (chosen-tells all)
+  clear-reduces = reduced clear (clearOn m) (clear-numbers t m s) (clear-does _ _ _ m s) (chosen-tells all)
 
   pub retain-reduces : (bytes : List ℕ) → Reduces t m (retain bytes)
   unfolding retainOn
   retain-reduces bytes =
-      reduced (retain bytes) (retainOn m bytes) (retain-does _ _ _ m s bytes)
+      reduced (retain bytes) (retainOn m bytes) (retain-numbers t m s bytes) (retain-does _ _ _ m s bytes)
       (unless-tells (retain bytes) (sideNumber passes (length bytes) (m .used)) _ (nothing m z) (λ _. chosen-tells (struckBy bytes)))
 
   -- questions
   pub ask-reduces : (q : Question) → Reduces t m (ask q)
-  ask-reduces (number k) = record { machine = m; stands = s; becomes = nothing m z }
-  ask-reduces (look k) = record { machine = m; stands = s; becomes = nothing m z }
-  ask-reduces (hop c) = reduced (ask (hop c)) (hopOn m c) (hop-does _ _ _ m s c) (nothing m z)
-  ask-reduces check = reduced (ask check) (checkOn m) (check-does _ _ _ m s) (nothing m z)
-  ask-reduces room = reduced (ask room) (roomOn m) (room-does _ _ _ m s) (nothing m z)
+  ask-reduces (number k) = record { machine = m; stands = s; becomes = nothing m z; numbers = ask-numbers t m s (number k) }
+  ask-reduces (look k) = record { machine = m; stands = s; becomes = nothing m z; numbers = ask-numbers t m s (look k) }
+  ask-reduces (hop c) = reduced (ask (hop c)) (hopOn m c) (ask-numbers t m s (hop c)) (hop-does _ _ _ m s c) (nothing m z)
+  ask-reduces check = reduced (ask check) (checkOn m) (ask-numbers t m s check) (check-does _ _ _ m s) (nothing m z)
+  ask-reduces room = reduced (ask room) (roomOn m) (ask-numbers t m s room) (room-does _ _ _ m s) (nothing m z)
+
+  -- a start or a rebuild that is refused
+  pub begin-reduces : (b : Beginning) → Refused (outcome t (begin b)) → Reduces t m (begin b)
+  begin-reduces b e =
+      let n = begin-numbers t m s b in
+      record { machine = m; stands = subst (λ (x : Table). Stands x m) (sym (n .unmoved e)) s; becomes = nothing m z; numbers = n }
+
+-- any call of a history
+pub reduces : (t : Table) (m : Machine) → Stands t m → (c : Call) → GoesOn t c → Reduces t m c
+reduces t m s (begin b) g = begin-reduces t m s b g
+reduces t m s (ask q) g = ask-reduces t m s q
+reduces t m s (insert side) g = insert-reduces t m s side
+reduces t m s (remove k) g = remove-reduces t m s k
+reduces t m s (write k row) g = write-reduces t m s k row
+reduces t m s (replace k side) g = replace-reduces t m s k side
+reduces t m s drain g = drain-reduces t m s
+reduces t m s clear g = clear-reduces t m s
+reduces t m s (retain bytes) g = retain-reduces t m s bytes

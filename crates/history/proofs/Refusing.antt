@@ -75,8 +75,9 @@ module _ (t : Table) where
         let k = step-keyed side (insertLinks (t .links) (t .header .used)) in
         record {
           never-2 = never _ _ damaged (insert-only side _ _ _ (s .shaped) (s .sound)) refl;
-          full-only = λ e. full-only-if (t .links) (t .rows) (t .header) m s side
-              (unless-refused (t .links) (t .rows) (t .header) _ full _ (λ z. omega (arith, z, ap (λ (v : Values). v .number) k)) e);
+          full-only = λ e.
+              let a = unless-refused (t .links) (t .rows) (t .header) _ full _ (λ z. omega (arith, z, ap (λ (v : Values). v .number) k)) e in
+              ((side, refl), full-only-if (t .links) (t .rows) (t .header) m s side a);
           unmoved = unless-unmoved _ _ (λ e. cc);
         }
 
@@ -126,14 +127,3 @@ module _ (t : Table) where
     ask-numbers (hop c) = neither (ask (hop c)) _ (hop-only c) refl refl (unless-unmoved _ _ (λ _. refl))
     ask-numbers check = neither (ask check) _ check-only refl refl (unless-unmoved _ _ (λ _. refl))
     ask-numbers room = neither (ask room) _ room-only refl refl (unless-unmoved _ _ (λ _. refl))
-
-    pub numbers : (c : Call) → Numbers t c
-    numbers (begin b) = begin-numbers b
-    numbers (ask q) = ask-numbers q
-    numbers (insert side) = insert-numbers side
-    numbers (remove k) = remove-numbers k
-    numbers (write k row) = write-numbers k row
-    numbers (replace k side) = replace-numbers k side
-    numbers drain = drain-numbers
-    numbers clear = clear-numbers
-    numbers (retain bytes) = retain-numbers bytes

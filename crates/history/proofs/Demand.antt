@@ -1,0 +1,118 @@
+-- Demand 3, in our words.
+--
+-- Take a table that a start or a rebuild has left without a refusal (Begun), and then any calls at all, whatever their arguments, refused
+-- ones among them, each given the same two tables and the header that the call before it handed back (after). Nobody else writes a
+-- word of the tables but a row through its live key, and that is a call here too (write). A start or a rebuild in mid-history counts
+-- only where it is refused (Within): one that is not begins a history of its own. Then after every call:
+--
+-- 1. The live keys are those at the start, plus those handed out, less those removed, each with its row as last written: look answers
+--    for any key what a bystander has who heard the calls and their answers and never saw a table (reckoned).
+-- 2. The table is sound: the chain from slot 0 holds exactly the maximal vacant runs, each once (Circle), and both ends of each run name
+--    the other (Ends). So the soundness check never refuses.
+-- 3. Live rows and vacant slots, slot 0 not counted (slots), are as many as at the start or as the most rows ever live at once since
+--    (most), whichever is more. So no slot is lost, and none is added while one is vacant.
+-- 4. A removed key stays dead until its slot has seen 2,147,483,648 removals since, its own the first. Then it may come back: sharp.
+-- 5. 2 is never given, 5 only to an insert at a full table, and a refused call leaves tables and header as they were.
+--
+-- The calls and their rules are in specs/Calls, what a history is in specs/Histories, the bystander in specs/Bystander, what happens in a
+-- call in specs/Events, the counts in specs/Slots, the number of removals in specs/Versions. Assumes nothing.
+use mathlib.Core.Path.{_≡_, sym, ap, _∙_, subst}
+use mathlib.Core.Logic.{_≢_}
+use mathlib.Core.List.{List, [], _∷_, _++_}
+use Prim.Native.Nat.{ℕ, _≤_, _<_, _%_, _^_, max}
+use native.Mathlib.Omega.{arith}
+use Rattle.rules.specs.Values.{Kind, gives, done, ofNumber, refused}
+use Rattle.rules.specs.Refusals.{damaged, notLive, full, shapeNumber}
+use Rattle.rules.specs.Sound.{Sound}
+use Rattle.rules.specs.declared.Key.{Key}
+use Rattle.runs.specs.Machine.{Machine}
+use Rattle.runs.proofs.Removed.{key-number-is}
+use Rattle.runs.proofs.Chosen.{check-does}
+use Rattle.history.specs.Calls.{Call, ask, number, check, insert}
+use Rattle.history.specs.Histories.{Table, outcome, answer, next, after, answers, looked, Refused, Begun, GoesOn, Within}
+use Rattle.history.specs.Bystander.{Book, ifGiven, reckoned}
+use Rattle.history.specs.Events.{Event, handed, removed, events, allTold, seen}
+use Rattle.history.specs.Slots.{vacantSlots, slots, most}
+use Rattle.history.specs.Versions.{refilledTimes, round}
+use Rattle.history.specs.Refusals.{Numbers}
+use Rattle.history.proofs.Live.{dead-number}
+use Rattle.history.proofs.Paths.{Path, parted}
+use Rattle.history.proofs.Books.{all-told}
+use Rattle.history.proofs.Ages.{stays-dead, handed-again, comes-round, not-before}
+use Rattle.history.proofs.Reduced.{insert-reduces, reduces}
+use Rattle.history.proofs.Beginnings.{begun}
+use Rattle.history.proofs.Whole.{live-rows, slots-are, looked-is, Through, through}
+
+module _ (t : Table) (b : Begun t) (cs : List Call) (w : Within t cs) where
+  abbrev now : Table
+  now = after t cs
+
+  gone : Through t (begun t b .0) cs
+  gone = through t (begun t b .0) (begun t b .1) cs w
+
+  -- 1. live keys and rows
+  pub live-keys : (k : Key) → looked now k ≡ reckoned (looked t) cs (answers t cs) k
+  live-keys k =
+      ap (λ (book : Book). book k)
+      (looked-is now (gone .machine) (gone .stands) ∙ sym (gone .has)
+      ∙ ap (λ (book : Book). reckoned book cs (answers t cs)) (sym (looked-is t (begun t b .0) (begun t b .1))))
+
+  -- the events of the calls tell the same
+  pub events-tell : (k : Key) → looked now k ≡ allTold (events t cs) (looked t) k
+  events-tell k =
+      ap (λ (book : Book). book k)
+      (looked-is now (gone .machine) (gone .stands) ∙ sym (all-told (begun t b .0) (events t cs) (gone .machine) (gone .path))
+      ∙ ap (allTold (events t cs)) (sym (looked-is t (begun t b .0) (begun t b .1))))
+
+  -- 2. the chain
+  pub sound : (shapeNumber (now .links) (now .rows) (now .header) ≡ 0) × Sound (now .links) (now .header)
+  sound = (gone .stands .shaped, gone .stands .sound)
+
+  pub check-passes : answer now (ask check) ≡ done
+  check-passes = check-does (now .links) (now .rows) (now .header) (gone .machine) (gone .stands) .answer
+
+  -- 3. slots
+  pub slots-law : slots now ≡ max (slots t) (most t cs)
+  slots-law = omega (arith, gone .used, slots-are now (gone .machine) (gone .stands), slots-are t (begun t b .0) (begun t b .1))
+
+  -- no slot is lost, whatever follows; and none is added while one is vacant
+  pub no-slot-lost : (ds : List Call) → Within now ds → slots now ≤ slots (after now ds)
+  no-slot-lost ds v =
+      let q = through now (gone .machine) (gone .stands) ds v in
+      omega (arith, q .used, slots-are now (gone .machine) (gone .stands), slots-are (after now ds) (q .machine) (q .stands))
+
+  pub none-added : (c : Call) → GoesOn now c → vacantSlots now ≢ 0 → slots (next now c) ≡ slots now
+  none-added c g v =
+      let r = reduces now (gone .machine) (gone .stands) c g in
+      let here = slots-are now (gone .machine) (gone .stands) in
+      let u = r .becomes .slots .none-added (omega (arith, here, live-rows now (gone .machine) (gone .stands))) in
+      omega (arith, here, u, slots-are (next now c) (r .machine) (r .stands))
+
+  -- 4. dead keys: the key k is removed somewhere in the history, by whatever call, and the events fs follow
+  module _ (es fs : List Event) (k : Key) (at : events t cs ≡ es ++ removed k ∷ fs) where
+    since : (x : Machine) × Path (begun t b .0) es x × Path x (removed k ∷ fs) (gone .machine)
+    since = parted (begun t b .0) es (removed k ∷ fs) (gone .machine) (subst (λ (a : List Event). Path (begun t b .0) a (gone .machine)) at (gone .path))
+
+    pub dead : seen (k .index) (removed k ∷ fs) < round → answer now (ask (number k)) ≡ refused notLive
+    dead few =
+        let n = dead-number (gone .machine) k (since .2 .1 .live .odd) (stays-dead (since .0) k fs (gone .machine) (since .2) few) in
+        ap ofNumber (key-number-is (now .links) (now .rows) (now .header) (gone .machine) (gone .stands) k ∙ n)
+
+    -- sharp: after exactly so many removals an insert into that slot hands out the same key
+    pub hands-out-again : k .version < 2 ^ 32 → seen (k .index) (removed k ∷ fs) ≡ round →
+        (side : List ℕ) → answer now (insert side) .kind ≡ gives → answer now (insert side) .key .index ≡ k .index → answer now (insert side) .key ≡ k
+    hands-out-again word all side e i =
+        let r = insert-reduces now (gone .machine) (gone .stands) side in
+        let p = subst (λ (a : Kind). Path (gone .machine) (ifGiven a (handed (answer now (insert side) .key) side ∷ []) []) (r .machine)) e (r .becomes .path) in
+        handed-again (since .0) k fs (gone .machine) (since .2) word all (answer now (insert side) .key) side (p .0) (p .1) i
+
+  -- 5. refusals: of any call that comes next
+  pub refusals : (c : Call) → GoesOn now c → Numbers now c
+  refusals c g = reduces now (gone .machine) (gone .stands) c g .numbers
+
+-- 4., the version alone: so many times removed and filled again it is what it was, and never before
+pub version-comes-round : (v : ℕ) → v % 2 ≡ 1 → v < 2 ^ 32 → refilledTimes round v ≡ v
+version-comes-round = comes-round
+
+pub not-before-that : (n v : ℕ) → v % 2 ≡ 1 → v < 2 ^ 32 → 0 < n → n < round → refilledTimes n v ≢ v
+not-before-that = not-before

@@ -1,0 +1,99 @@
+-- Calls one after another: the events of all of them, what the bystander has, and the slots in use. Assumes nothing.
+use mathlib.Core.Path.{_≡_, refl, sym, ap, _∙_, subst, fun-ext}
+use mathlib.Core.List.{List, [], _∷_, _++_}
+use Prim.Native.Nat.{ℕ, zero, suc, _+_, _≤_, _<_, _%_, max}
+use native.Mathlib.Decide.{ℕ-discrete}
+use native.Mathlib.Omega.{arith}
+use lib.Dec.{ltb}
+use borrow.Author.Tests.{eq-eqb, ne-eqb, lt-ltb, le-ltb}
+use Rattle.rules.specs.Choice.{both, one-if}
+use Rattle.rules.specs.Words.{isEven}
+use Rattle.rules.specs.Runs.{oddCount}
+use Rattle.rules.specs.declared.Key.{Key}
+use Rattle.runs.specs.Machine.{Machine, liveOf}
+use Rattle.runs.specs.Steps.{lookOn}
+use Rattle.runs.proofs.Counts.{count-more, count-none-yet, odd-more, odd-none-yet}
+use Rattle.runs.proofs.DrainMachine.{Headed}
+use Rattle.runs.proofs.Drained.{headed}
+use Rattle.runs.proofs.Accessed.{look-is}
+use Rattle.history.specs.Calls.{Call}
+use Rattle.history.specs.Histories.{Table, looked, next, after, answer, answers, Within}
+use Rattle.history.specs.Bystander.{Book, reckoned}
+use Rattle.history.specs.Events.{events, happening}
+use Rattle.history.specs.Slots.{liveRows, vacantBelow, vacantSlots, slots, most}
+use Rattle.history.proofs.Paths.{Path, join}
+use Rattle.history.proofs.Counted.{some-vacant}
+use Rattle.history.proofs.Reduced.{Stands, reduces}
+
+-- the counts of a table that is a machine
+vacant-counted : (v : ℕ → ℕ) (n : ℕ) → 0 < n → v 0 % 2 ≡ 0 → oddCount v n + vacantBelow v n + 1 ≡ n
+vacant-counted v zero p z = absurd (omega arith)
+vacant-counted v (suc n) p z = go (ℕ-discrete n 0) (ℕ-discrete (v n % 2) 0) (vacant-counted v n)
+  where
+    more : vacantBelow v (suc n) ≡ vacantBelow v n + one-if (both (ltb 0 n) (isEven (v n)))
+    more = count-more (λ i. both (ltb 0 i) (isEven (v i))) n
+
+    none : n ≡ 0 → vacantBelow v n ≡ 0
+    none e = ap (vacantBelow v) e ∙ count-none-yet (λ i. both (ltb 0 i) (isEven (v i)))
+
+    go : Dec (n ≡ 0) → Dec (v n % 2 ≡ 0) → (0 < n → v 0 % 2 ≡ 0 → oddCount v n + vacantBelow v n + 1 ≡ n) → oddCount v (suc n) + vacantBelow v (suc n) + 1 ≡ suc n
+    go (yes e) d r =
+        let bit : one-if (both (ltb 0 n) (isEven (v n))) ≡ 0 = simp (le-ltb 0 n (omega arith)) in
+        omega (arith, odd-more v n, more, bit, none e, ap (oddCount v) e, odd-none-yet v, ap (λ (x : ℕ). v x % 2) e)
+    go (no f) (yes d) r =
+        let bit : one-if (both (ltb 0 n) (isEven (v n))) ≡ 1 = simp (lt-ltb 0 n (omega arith), eq-eqb (v n % 2) 0 d) in
+        omega (arith, odd-more v n, more, bit, r (omega arith) z)
+    go (no f) (no d) r =
+        let bit : one-if (both (ltb 0 n) (isEven (v n))) ≡ 0 = simp (lt-ltb 0 n (omega arith), ne-eqb (v n % 2) 0 d) in
+        omega (arith, odd-more v n, more, bit, r (omega arith) z)
+
+module _ (t : Table) (m : Machine) (s : Stands t m) where
+  pub live-rows : liveRows t ≡ liveOf m
+  live-rows = ap liveOf (s .same)
+
+  pub used-is : t .header .used ≡ m .used
+  used-is = ap (λ (x : Machine). x .used) (s .same)
+
+  -- slots in use are those counted, and slot 0
+  pub slots-are : slots t + 1 ≡ m .used
+  slots-are =
+      let z = headed _ _ _ m s in
+      ap (λ (x : Machine). oddCount (x .versions) (x .used) + vacantBelow (x .versions) (x .used) + 1) (s .same)
+      ∙ vacant-counted (m .versions) (m .used) (z .positive) (z .even)
+
+  pub looked-is : looked t ≡ lookOn m
+  looked-is = fun-ext (look-is _ _ _ m s)
+
+pub most-now : (t : Table) (cs : List Call) → liveRows t ≤ most t cs
+most-now t [] = omega arith
+most-now t (c ∷ cs) = omega arith
+
+-- calls one after another
+pub record Through (t : Table) (m : Machine) (cs : List Call) : Type 0 where
+  pub machine : Machine
+  pub stands : Stands (after t cs) machine
+  pub path : Path m (events t cs) machine
+  pub has : reckoned (lookOn m) cs (answers t cs) ≡ lookOn machine
+  pub used : machine .used ≡ max (m .used) (suc (most t cs))
+
+pub through : (t : Table) (m : Machine) → Stands t m → (cs : List Call) → Within t cs → Through t m cs
+through t m s [] w =
+    record { machine = m; stands = s; path = refl; has = refl; used = omega (arith, some-vacant m (headed _ _ _ m s), live-rows t m s) }
+through t m s (c ∷ cs) w =
+    let r = reduces t m s c (w .0) in
+    let q = through (next t c) (r .machine) (r .stands) cs (w .1) in
+    record {
+      machine = q .machine;
+      stands = q .stands;
+      path = join m (happening t c (answer t c)) (r .machine) (events (next t c) cs) (q .machine) (r .becomes .path) (q .path);
+      has = ap (λ (b : Book). reckoned b cs (answers (next t c) cs)) (r .becomes .has) ∙ q .has;
+      used = omega (
+        arith,
+        r .becomes .slots .larger,
+        q .used,
+        live-rows t m s,
+        some-vacant m (headed _ _ _ m s),
+        live-rows (next t c) (r .machine) (r .stands),
+        most-now (next t c) cs,
+      );
+    }
