@@ -10,6 +10,7 @@ pub mod Ages
 -- What a call makes of a machine: nothing, one event, or the chosen removed; what its number tells; and, one lemma a call, that each comes
 -- down to its events.
 pub mod Becoming
+pub mod Parts
 pub mod Refusing
 pub mod Reduced
 -- Where a history begins, one lemma a beginning; calls one after another; the five theorems.

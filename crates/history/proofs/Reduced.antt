@@ -1,16 +1,18 @@
 -- Each call, on a table that is a machine, comes down to its events: one lemma a call. Assumes nothing.
-use mathlib.Core.Path.{_≡_, refl, sym, ap, subst}
+use mathlib.Core.Path.{_≡_, refl, sym, ap, _∙_, subst}
 use mathlib.Core.Logic.{_≢_}
 use mathlib.Core.List.{List}
 use mathlib.Core.Bool.{Bool}
 use Prim.Native.Nat.{ℕ}
+use native.Mathlib.Decide.{ℕ-discrete}
 use native.Mathlib.Omega.{arith}
 use lib.ListN.{length}
 use lib.Dec.{eqb}
-use borrow.Author.Tests.{eqb-true, eqb-false}
+use borrow.Author.Tests.{ne-eqb, eqb-true, eqb-false}
 use Rattle.rules.specs.Words.{rowWords, withBit}
-use Rattle.rules.specs.Values.{Values, done, refused}
+use Rattle.rules.specs.Values.{Values, ofNumber, done, refused}
 use Rattle.rules.specs.Refusals.{passes, sideNumber}
+use Rattle.rules.specs.Access.{keyNumber}
 use Rattle.rules.specs.Retain.{struckBy}
 use Rattle.rules.specs.declared.Key.{Key}
 use Rattle.rules.proofs.Choice.{by-pick}
@@ -21,7 +23,6 @@ use Rattle.runs.specs.Tables.{Shows, Does}
 use Rattle.runs.proofs.Counts.{odd-but-zero}
 use Rattle.runs.proofs.Fronts.{Fronts}
 use Rattle.runs.proofs.Sound.{linked}
-use Rattle.runs.proofs.Shown.{unless-does}
 use Rattle.runs.proofs.Inserted.{insert-does}
 use Rattle.runs.proofs.Removed.{key-live, key-number-is, remove-does}
 use Rattle.runs.proofs.Hopped.{hop-does}
@@ -30,7 +31,7 @@ use Rattle.runs.proofs.Drained.{headed, drain-does}
 use Rattle.runs.proofs.Chosen.{chosen-does, check-does, clear-does, retain-does}
 use Rattle.runs.proofs.Accessed.{room-does, written-shows, replace-does}
 use Rattle.runs.proofs.Full.{place-run, none-vacant}
-use Rattle.history.specs.Calls.{Row, Beginning, Question, number, look, hop, check, room, Call, begin, ask, insert, remove, write, replace, drain, clear, retain}
+use Rattle.history.specs.Calls.{Row, Beginning, Question, number, look, hop, check, room, Call, begin, ask, insert, remove, write, replace, drain, clear, retain, writeRule}
 use Rattle.history.specs.Histories.{Table, outcome, answer, next, Refused, GoesOn}
 use Rattle.history.specs.Bystander.{struck, noted}
 use Rattle.history.specs.Events.{Event, removed, wrote, allRemoved, chosenRemoved, happening}
@@ -38,6 +39,7 @@ use Rattle.history.specs.Refusals.{Numbers}
 use Rattle.history.proofs.Live.{Live, live-is, passes-live}
 use Rattle.history.proofs.Paths.{Hands, Writes}
 use Rattle.history.proofs.Becoming.{Becomes, nothing, one-event, freed-removes, all-chosen}
+use Rattle.history.proofs.Parts.{written-live, written-none}
 use Rattle.history.proofs.Refusing.{insert-numbers, remove-numbers, write-numbers, replace-numbers, drain-numbers, clear-numbers, retain-numbers, begin-numbers, ask-numbers}
 
 abbrev pub Stands : Table → Machine → Type 0
@@ -128,16 +130,26 @@ module _ (t : Table) (m : Machine) (s : Shows (t .links) (t .rows) (t .header) m
   unfolding written
   written-writes k row a = record { live = a; versions = refl; rows = refl; used = refl }
 
-  write-does : (k : Key) (row : Row) → Does (outcome t (write k row)) (stepUnless m (keyNumberOn passes m k) (stays (written m (k .index) (row .words)) done))
-  write-does k row =
-      unless-does _ _ _ m s _ _ (key-number-is _ _ _ m s k) _ _
-      (λ e. record { answer = refl; row = refl; shows = written-shows _ _ _ m s (k .index) (row .words) (passes-live m k e .low) (row .eight) })
-
   pub write-reduces : (k : Key) (row : Row) → Reduces t m (write k row)
-  write-reduces k row =
-      reduced (write k row) (stepUnless m (keyNumberOn passes m k) _) (write-numbers t m s k row) (write-does k row)
-      (unless-tells (write k row) (keyNumberOn passes m k) _ (nothing m z)
-      (λ e. one-event m z (wrote k (row .words)) _ (written-writes k (row .words) (passes-live m k e))))
+  write-reduces k row = go (ℕ-discrete (keyNumber (t .links) (t .rows) (t .header) k) 0)
+    where
+      -- the rows that are left, and what the answer tells
+      leaves : (r : List ℕ) (x : Machine) → writeRule (t .links) (t .rows) (t .header) k row .rows ≡ r → Shows (t .links) r (t .header) x →
+          (a : Values) → answer t (write k row) ≡ a → Becomes m (happening t (write k row) a) (noted (write k row) a (lookOn m)) x → Reduces t m (write k row)
+      leaves r x e sh a f b =
+          record {
+            machine = x;
+            stands = subst (λ (y : List ℕ). Shows (t .links) y (t .header) x) (sym e) sh;
+            becomes = subst (λ (v : Values). Becomes m (happening t (write k row) v) (noted (write k row) v (lookOn m)) x) (sym f) b;
+            numbers = write-numbers t m s k row;
+          }
+
+      go : Dec (keyNumber (t .links) (t .rows) (t .header) k ≡ 0) → Reduces t m (write k row)
+      go (yes e) =
+          let alive = passes-live m k (sym (key-number-is _ _ _ m s k) ∙ e) in
+          leaves _ _ (written-live _ _ _ k row e) (written-shows _ _ _ m s (k .index) (row .words) (alive .low) (row .eight)) done (ap ofNumber e)
+          (one-event m z (wrote k (row .words)) _ (written-writes k (row .words) alive))
+      go (no n) = leaves _ m (written-none _ _ _ k row n) s (refused (keyNumber (t .links) (t .rows) (t .header) k)) (simp (ne-eqb _ 0 n)) (nothing m z)
 
   pub replace-reduces : (k : Key) (side : List ℕ) → Reduces t m (replace k side)
   unfolding replaceOn

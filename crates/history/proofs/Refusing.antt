@@ -5,12 +5,13 @@ use mathlib.Core.List.{List, _∷_}
 use mathlib.Core.Bool.{false}
 use mathlib.Core.Path.{_≡_, refl, ap}
 use mathlib.Core.Logic.{_≢_}
+use native.Mathlib.Decide.{ℕ-discrete}
 use native.Mathlib.Omega.{arith}
 use lib.Dec.{eqb}
 use Rattle.rules.specs.Values.{Values, Outcome, plain, keyed, done, refused, ofNumber, unless}
 use Rattle.rules.specs.Refusals.{damaged, full}
 use Rattle.rules.specs.Start.{startRule, roomRule}
-use Rattle.rules.specs.Access.{replaceRule}
+use Rattle.rules.specs.Access.{keyNumber, replaceRule}
 use Rattle.rules.specs.Insert.{insertLinks, insertStep, takeNew, takeSlot, insertBy, insertRule}
 use Rattle.rules.specs.Remove.{removeStep, removeBy, removeSlot, removeAt, removeRule}
 use Rattle.rules.specs.Hop.{hopRule}
@@ -31,6 +32,7 @@ use Rattle.runs.proofs.Calls.{never, unless-only, insert-only, remove-only, rep
 use Rattle.history.specs.Calls.{Row, Beginning, start, rebuild, Question, number, look, hop, check, room, Call, begin, ask, insert, remove, write, replace, drain, clear, retain, rule}
 use Rattle.history.specs.Histories.{Table, left, outcome, Refused}
 use Rattle.history.specs.Refusals.{Numbers}
+use Rattle.history.proofs.Parts.{written-none}
 
 -- a number that the step does not have is a refusal's
 unless-refused : (l r : List ℕ) (hd : Header) (n bad : ℕ) (o : Outcome) → o .answer .number ≢ bad →
@@ -87,8 +89,13 @@ module _ (t : Table) where
 
     pub write-numbers : (k : Key) (row : Row) → Numbers t (write k row)
     write-numbers k row =
-        neither (write k row) _ (λ l r hd e s. unless-only _ l r hd _ _ (key-number-only l r hd e s k) (record { listed = refl })) refl refl
-        (unless-unmoved _ _ (λ e. cc))
+        neither (write k row) _ (λ l r hd e s. number-only _ _ (key-number-only l r hd e s k)) refl refl
+        (λ e. part-kept (ℕ-discrete (keyNumber (t .links) (t .rows) (t .header) k) 0) e)
+      where
+        part-kept : Dec (keyNumber (t .links) (t .rows) (t .header) k ≡ 0) → Refused (outcome t (write k row)) → left (outcome t (write k row)) ≡ t
+        part-kept (yes z) e = let d = ap (λ (n : ℕ). ofNumber n .kind) z in cc
+        part-kept (no n) e =
+            ap (λ (r : List ℕ). record { links = t .links; rows = r; header = t .header }) (written-none (t .links) (t .rows) (t .header) k row n)
 
     pub replace-numbers : (k : Key) (side : List ℕ) → Numbers t (replace k side)
     unfolding replaceRule

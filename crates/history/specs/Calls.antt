@@ -3,10 +3,11 @@ use Prim.Native.Nat.{ℕ}
 use mathlib.Core.List.{List}
 use mathlib.Core.Path.{_≡_}
 use lib.ListN.{length}
-use Rattle.rules.specs.Words.{rowWords, setRow}
-use Rattle.rules.specs.Values.{Outcome, ofNumber, done, plain, unless}
+use lib.Seq.{paste}
+use Rattle.rules.specs.Words.{rowWords}
+use Rattle.rules.specs.Values.{Outcome, ofNumber, plain}
 use Rattle.rules.specs.Start.{startRule, roomRule}
-use Rattle.rules.specs.Access.{keyNumber, lookRule, replaceRule}
+use Rattle.rules.specs.Access.{keyNumber, lookRule, lookStart, replaceRule}
 use Rattle.rules.specs.Insert.{insertRule}
 use Rattle.rules.specs.Remove.{removeRule}
 use Rattle.rules.specs.Hop.{hopRule}
@@ -61,9 +62,16 @@ askRule (hop c) l r hd = hopRule l r hd c
 askRule check l r hd = checkRule l r hd
 askRule room l r hd = roomRule l r hd
 
--- the row of a live key is written over; the part for any other key has no word to write to
+-- look_mut hands out the same part as look, and the caller writes eight words over it; a part without words takes none
 abbrev pub writeRule : List ℕ → List ℕ → Header → Key → Row → Outcome
-writeRule l r hd k row = unless l r hd (keyNumber l r hd k) (plain done hd l (setRow r (k .index) (row .words)))
+writeRule l r hd k row =
+    record {
+      answer = ofNumber (keyNumber l r hd k);
+      row = lookRule l r hd k;
+      header = hd;
+      links = l;
+      rows = paste r (lookStart l r hd k) (row .words) (length (lookRule l r hd k));
+    }
 
 abbrev pub rule : Call → List ℕ → List ℕ → Header → Outcome
 rule (begin b) l r hd = beginRule b l r hd
