@@ -31,6 +31,13 @@ ages w = record { fill = λ n x e a. (a .0, omega (arith, a .1)); free = λ n x 
 pub words : Kept (λ (n : ℕ) (x : ℕ). x < 2 ^ 32)
 words = record { fill = λ n x e a. omega arith; free = λ n x o a. omega arith }
 
+-- a slot sees the removal of its own key, and of no other
+its-own : (i : ℕ) (k : Key) → i ≡ k .index → sees i (removed k) ≡ 1
+its-own i k e = alike-same i (k .index) e
+
+no-other : (i : ℕ) (k : Key) → i ≢ k .index → sees i (removed k) ≡ 0
+no-other i k n = alike-other i (k .index) n
+
 module _ (P : ℕ → ℕ → Type 0) (kept : Kept P) (i : ℕ) where
   -- slot j gets the version y, and slot i sees s removals
   put-keeps : (s n : ℕ) (v : ℕ → ℕ) (j y : ℕ) → (i ≡ j → P n (v j) → P (s + n) y) → (i ≢ j → s ≡ 0) → P n (v i) → P (s + n) (put v j y i)
@@ -48,10 +55,10 @@ module _ (P : ℕ → ℕ → Type 0) (kept : Kept P) (i : ℕ) where
       new : i ≡ k .index → P n (m .versions (k .index)) → P (0 + n) (k .version)
       new e b = let u : k .index < m .used = omega arith in rw (h .version u, zero-add n) (kept .fill n _ (h .vacant u) b)
   event-keeps n m (removed k) m′ h l a =
-      (omega (arith, h .used), rw (h .versions) (put-keeps (sees i (removed k)) n (m .versions) (k .index) _ gone (alike-other i (k .index)) a))
+      (omega (arith, h .used), rw (h .versions) (put-keeps (sees i (removed k)) n (m .versions) (k .index) _ gone (no-other i k) a))
     where
       gone : i ≡ k .index → P n (m .versions (k .index)) → P (sees i (removed k) + n) (rise (m .versions (k .index)))
-      gone e b = rw (alike-same i (k .index) e) (kept .free n _ (omega (arith, h .live .same, h .live .odd)) b)
+      gone e b = rw (its-own i k e) (kept .free n _ (omega (arith, h .live .same, h .live .odd)) b)
   event-keeps n m (wrote k row) m′ h l a = (omega (arith, h .used), rw (h .versions, zero-add n) a)
 
   pub path-keeps : (n : ℕ) (m : Machine) (es : List Event) (m′ : Machine) → Path m es m′ → i < m .used → P n (m .versions i) →
@@ -84,7 +91,7 @@ module _ (m : Machine) (k : Key) (es : List Event) (m′ : Machine) (p : Path m 
 
   pub stays-dead : seen (k .index) (removed k ∷ es) < round → Live m′ k → ⊥
   stays-dead l a =
-      let own = alike-same (k .index) (k .index) refl in
+      let own = its-own (k .index) k refl in
       no-turn (seen (k .index) (removed k ∷ es)) (aged .1 .0) (omega (arith, own)) l (omega (arith, aged .1 .1, a .odd, a .same))
 
   came-round : k .version < 2 ^ 32 → seen (k .index) (removed k ∷ es) ≡ round → withBit (m′ .versions (k .index)) ≡ k .version

@@ -9,23 +9,22 @@ use native.Mathlib.Omega.{arith}
 use lib.Dec.{ltb}
 use borrow.Author.Tests.{eq-eqb, lt-ltb, le-ltb, eqb-false}
 use Rattle.rules.specs.Choice.{pick, both}
-use Rattle.rules.specs.Words.{zeroRow, rise, occupiedBy}
-use Rattle.rules.specs.Refusals.{passes}
+use Rattle.rules.specs.Words.{rise, occupiedBy}
 use Rattle.rules.specs.declared.Key.{Key}
-use Rattle.rules.proofs.Choice.{by-test, by-pick, both-true}
-use Rattle.rules.proofs.SlotTests.{occupied-yes, occupied-is}
-use Rattle.runs.specs.Machine.{Machine, keyOf, liveOf}
-use Rattle.runs.specs.Steps.{keyNumberOn, lookOn, freedOn}
+use Rattle.rules.proofs.Choice.{by-test, both-true}
+use Rattle.rules.proofs.SlotTests.{occupied-is}
+use Rattle.runs.specs.Machine.{Machine, keyOf}
+use Rattle.runs.specs.Steps.{lookOn, freedOn}
 use Rattle.runs.specs.WholeTable.{Tally, removeIfOn, removeChosenOn}
 use Rattle.runs.proofs.Counts.{rise-even}
 use Rattle.runs.proofs.DrainMachine.{Headed}
 use Rattle.runs.proofs.ChosenMachine.{goes, left}
 use Rattle.history.specs.Bystander.{Book, struck}
-use Rattle.history.specs.Events.{Event, handed, removed, wrote, allRemoved, told}
-use Rattle.history.proofs.Live.{Live, passes-live, live-passes, look-dead}
+use Rattle.history.specs.Events.{Event, removed, allRemoved, told}
+use Rattle.history.proofs.Live.{Live, look-dead}
 use Rattle.history.proofs.Paths.{Removes, Happens, Path, one, join}
 use Rattle.history.proofs.Books.{look-alike, told-is}
-use Rattle.history.proofs.Counted.{Slots, some-vacant, same-slots, slots-after}
+use Rattle.history.proofs.Counted.{Slots, same-slots, slots-after}
 
 pub record Becomes (m : Machine) (es : List Event) (book : Book) (m′ : Machine) : Type 0 where
   pub path : Path m es m′

@@ -1,27 +1,25 @@
 -- Where a history begins: each beginning leaves a table that is a machine, one lemma each; and which keys are live then. Assumes nothing.
-use mathlib.Core.Path.{_≡_, refl, sym, ap, _∙_, subst}
+use mathlib.Core.Path.{_≡_, refl, ap, _∙_, subst}
 use mathlib.Core.List.{List, []}
-use mathlib.Core.Bool.{Bool, true, false}
+use mathlib.Core.Bool.{Bool, false}
 use Prim.Native.Nat.{ℕ, _%_}
-use native.Mathlib.Decide.{ℕ-discrete}
 use native.Mathlib.Omega.{arith}
 use lib.ListN.{length}
 use lib.Dec.{eqb}
 use borrow.Author.Tests.{eqb-true, eqb-false}
 use Rattle.rules.specs.Choice.{pick}
-use Rattle.rules.specs.Words.{lentOf, versionAt, rowAt, zeroRow, vacantBy}
+use Rattle.rules.specs.Words.{lentOf, versionAt, rowAt}
 use Rattle.rules.specs.Values.{Outcome, refusal, unless}
-use Rattle.rules.specs.Refusals.{passes, lentNumber, liveBy}
+use Rattle.rules.specs.Refusals.{lentNumber, liveBy}
 use Rattle.rules.specs.Start.{startRule}
-use Rattle.rules.specs.Rebuild.{rebuildNumber, rebuildStep, rebuildRule}
+use Rattle.rules.specs.Rebuild.{rebuildNumber, rebuildRule}
 use Rattle.rules.specs.declared.Header.{Header}
 use Rattle.rules.specs.declared.Key.{Key}
 use Rattle.rules.proofs.Choice.{by-test}
 use Rattle.rules.proofs.SlotTests.{vacant-no}
 use Rattle.runs.specs.Machine.{Machine}
-use Rattle.runs.specs.Steps.{keyNumberOn, lookOn}
+use Rattle.runs.specs.Steps.{lookOn}
 use Rattle.runs.specs.WholeTable.{startOn, rebuildOn}
-use Rattle.runs.specs.Tables.{Does}
 use Rattle.runs.proofs.Accessed.{look-is}
 use Rattle.runs.proofs.Begun.{start-does, rebuild-does}
 use Rattle.history.specs.Calls.{Beginning, start, rebuild, beginRule}

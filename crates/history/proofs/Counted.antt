@@ -1,16 +1,13 @@
 -- Slots in use, event by event: there are as many as before, or as rows are live now and slot 0, whichever is more. Assumes nothing.
-use mathlib.Core.Path.{_≡_, refl, ap, _∙_}
+use mathlib.Core.Path.{_≡_, ap, _∙_}
 use mathlib.Core.Logic.{_≢_}
 use mathlib.Core.List.{List}
 use Prim.Native.Nat.{ℕ, suc, _+_, _<_, _%_, max}
 use native.Mathlib.Decide.{decLt}
 use native.Mathlib.Omega.{arith}
-use Rattle.rules.specs.Words.{rise}
 use Rattle.rules.specs.Runs.{oddCount}
 use Rattle.rules.specs.declared.Key.{Key}
-use Rattle.runs.specs.Points.{put}
 use Rattle.runs.specs.Machine.{Machine, liveOf}
-use Rattle.runs.proofs.Points.{put-same, put-other}
 use Rattle.runs.proofs.Counts.{odd-more, odd-same, odd-but-one}
 use Rattle.runs.proofs.DrainMachine.{Headed}
 use Rattle.history.specs.Events.{Event, handed, removed, wrote}

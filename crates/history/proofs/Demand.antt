@@ -22,14 +22,14 @@ use mathlib.Core.List.{List, [], _∷_, _++_}
 use Prim.Native.Nat.{ℕ, _≤_, _<_, _%_, _^_, max}
 use native.Mathlib.Omega.{arith}
 use Rattle.rules.specs.Values.{Kind, gives, done, ofNumber, refused}
-use Rattle.rules.specs.Refusals.{damaged, notLive, full, shapeNumber}
+use Rattle.rules.specs.Refusals.{notLive, shapeNumber}
 use Rattle.rules.specs.Sound.{Sound}
 use Rattle.rules.specs.declared.Key.{Key}
 use Rattle.runs.specs.Machine.{Machine}
 use Rattle.runs.proofs.Removed.{key-number-is}
 use Rattle.runs.proofs.Chosen.{check-does}
 use Rattle.history.specs.Calls.{Call, ask, number, check, insert}
-use Rattle.history.specs.Histories.{Table, outcome, answer, next, after, answers, looked, Refused, Begun, GoesOn, Within}
+use Rattle.history.specs.Histories.{Table, answer, next, after, answers, looked, Begun, GoesOn, Within}
 use Rattle.history.specs.Bystander.{Book, ifGiven, reckoned}
 use Rattle.history.specs.Events.{Event, handed, removed, events, allTold, seen}
 use Rattle.history.specs.Slots.{vacantSlots, slots, most}

@@ -17,3 +17,4 @@ pub mod Reduced
 pub mod Beginnings
 pub mod Whole
 pub mod Demand
+mod Tried

@@ -1,17 +1,15 @@
 -- A key that is live in a machine, and what look answers for it and for any other. Assumes nothing.
-use mathlib.Core.Path.{_≡_, refl, sym, ap, _∙_}
-use mathlib.Core.List.{List, []}
-use mathlib.Core.Bool.{Bool, true, false, not}
-use Prim.Native.Nat.{ℕ, _<_, _%_}
-use native.Mathlib.Decide.{ℕ-discrete, decLt}
+use mathlib.Core.Path.{_≡_, refl}
+use mathlib.Core.List.{[]}
+use mathlib.Core.Bool.{Bool, true, false}
+use Prim.Native.Nat.{_<_, _%_}
 use native.Mathlib.Omega.{arith}
-use lib.Dec.{ltb, eqb}
+use lib.Dec.{ltb}
 use borrow.Author.Tests.{lt-ltb, eq-eqb, ne-eqb, ltb-true, eqb-true}
-use Rattle.rules.specs.Choice.{pick, both}
-use Rattle.rules.specs.Words.{isOdd, isEven}
-use Rattle.rules.specs.Refusals.{_▸_, passes, evenVersion, notLive, liveBy}
+use Rattle.rules.specs.Words.{isOdd}
+use Rattle.rules.specs.Refusals.{_▸_, passes, notLive, liveBy}
 use Rattle.rules.specs.declared.Key.{Key}
-use Rattle.rules.proofs.Choice.{by-test, both-true, both-if}
+use Rattle.rules.proofs.Choice.{by-test, both-true}
 use Rattle.runs.specs.Machine.{Machine}
 use Rattle.runs.specs.Steps.{keyNumberOn, lookOn}
 use Rattle.runs.proofs.Removed.{key-live}

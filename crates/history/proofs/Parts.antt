@@ -1,13 +1,13 @@
 -- Eight words written through the part that look_mut hands out: the row of a live key, and nothing for any other. Assumes nothing.
-use mathlib.Core.Path.{_≡_, refl, sym, ap, _∙_}
+use mathlib.Core.Path.{_≡_, sym, ap, _∙_}
 use mathlib.Core.Logic.{_≢_}
 use mathlib.Core.List.{List}
-use Prim.Native.Nat.{ℕ, _*_}
+use Prim.Native.Nat.{ℕ}
 use lib.ListN.{length}
 use lib.Seq.{paste, paste-zero}
 use borrow.Author.Tests.{eq-eqb, le-leb}
-use Rattle.rules.specs.Words.{rowWords, setRow}
-use Rattle.rules.specs.Access.{keyNumber, lookRule, lookStart}
+use Rattle.rules.specs.Words.{setRow}
+use Rattle.rules.specs.Access.{keyNumber, lookStart}
 use Rattle.rules.specs.declared.Header.{Header}
 use Rattle.rules.specs.declared.Key.{Key}
 use Rattle.rules.proofs.Access.{live-within, missed, found, found-length}
@@ -17,9 +17,7 @@ module _ (l r : List ℕ) (hd : Header) (k : Key) (row : Row) where
   pub written-live : keyNumber l r hd k ≡ 0 → writeRule l r hd k row .rows ≡ setRow r (k .index) (row .words)
   unfolding setRow
   written-live e =
-      ap (λ (n : ℕ). paste r n (row .words) (length (lookRule l r hd k))) (found l r hd k e .0)
-      ∙ ap (paste r (k .index * rowWords) (row .words)) (found-length l r hd k e)
-      ∙ sym (simp (eq-eqb _ _ (row .eight), le-leb _ _ (live-within l r hd k e .1)))
+      simp (eq-eqb _ _ (row .eight), le-leb _ _ (live-within l r hd k e .1)) (cc (found l r hd k e .0, found-length l r hd k e))
 
   pub written-none : keyNumber l r hd k ≢ 0 → writeRule l r hd k row .rows ≡ r
   written-none n =

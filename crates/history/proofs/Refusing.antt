@@ -28,7 +28,7 @@ use Rattle.runs.specs.WholeTable.{clearOn}
 use Rattle.runs.specs.Tables.{Shows, oneOf, Only, GivesOnly}
 use Rattle.runs.proofs.Chosen.{chosen-does, clear-does}
 use Rattle.runs.proofs.Full.{full-only-if}
-use Rattle.runs.proofs.Calls.{never, unless-only, insert-only, remove-only, replace-only, hop-only, drain-only, clear-only, retain-only, check-only, room-only, key-number-only, start-only, rebuild-only}
+use Rattle.runs.proofs.Calls.{never, insert-only, remove-only, replace-only, hop-only, drain-only, clear-only, retain-only, check-only, room-only, key-number-only, start-only, rebuild-only}
 use Rattle.history.specs.Calls.{Row, Beginning, start, rebuild, Question, number, look, hop, check, room, Call, begin, ask, insert, remove, write, replace, drain, clear, retain, rule}
 use Rattle.history.specs.Histories.{Table, left, outcome, Refused}
 use Rattle.history.specs.Refusals.{Numbers}

@@ -1,26 +1,22 @@
 -- Calls one after another: the events of all of them, what the bystander has, and the slots in use. Assumes nothing.
-use mathlib.Core.Path.{_≡_, refl, sym, ap, _∙_, subst, fun-ext}
-use mathlib.Core.List.{List, [], _∷_, _++_}
+use mathlib.Core.Path.{_≡_, refl, ap, _∙_, fun-ext}
+use mathlib.Core.List.{List, [], _∷_}
 use Prim.Native.Nat.{ℕ, zero, suc, _+_, _≤_, _<_, _%_, max}
 use native.Mathlib.Decide.{ℕ-discrete}
 use native.Mathlib.Omega.{arith}
-use lib.Dec.{ltb}
 use borrow.Author.Tests.{eq-eqb, ne-eqb, lt-ltb, le-ltb}
-use Rattle.rules.specs.Choice.{both, one-if}
-use Rattle.rules.specs.Words.{isEven}
+use Rattle.rules.specs.Choice.{one-if}
 use Rattle.rules.specs.Runs.{oddCount}
-use Rattle.rules.specs.declared.Key.{Key}
 use Rattle.runs.specs.Machine.{Machine, liveOf}
 use Rattle.runs.specs.Steps.{lookOn}
 use Rattle.runs.proofs.Counts.{count-more, count-none-yet, odd-more, odd-none-yet}
-use Rattle.runs.proofs.DrainMachine.{Headed}
 use Rattle.runs.proofs.Drained.{headed}
 use Rattle.runs.proofs.Accessed.{look-is}
 use Rattle.history.specs.Calls.{Call}
 use Rattle.history.specs.Histories.{Table, looked, next, after, answer, answers, Within}
 use Rattle.history.specs.Bystander.{Book, reckoned}
 use Rattle.history.specs.Events.{events, happening}
-use Rattle.history.specs.Slots.{liveRows, vacantBelow, vacantSlots, slots, most}
+use Rattle.history.specs.Slots.{liveRows, spare, vacantBelow, slots, most}
 use Rattle.history.proofs.Paths.{Path, join}
 use Rattle.history.proofs.Counted.{some-vacant}
 use Rattle.history.proofs.Reduced.{Stands, reduces}
@@ -30,21 +26,21 @@ vacant-counted : (v : ℕ → ℕ) (n : ℕ) → 0 < n → v 0 % 2 ≡ 0 → odd
 vacant-counted v zero p z = absurd (omega arith)
 vacant-counted v (suc n) p z = go (ℕ-discrete n 0) (ℕ-discrete (v n % 2) 0) (vacant-counted v n)
   where
-    more : vacantBelow v (suc n) ≡ vacantBelow v n + one-if (both (ltb 0 n) (isEven (v n)))
-    more = count-more (λ i. both (ltb 0 i) (isEven (v i))) n
+    more : vacantBelow v (suc n) ≡ vacantBelow v n + one-if (spare v n)
+    more = count-more (spare v) n
 
     none : n ≡ 0 → vacantBelow v n ≡ 0
-    none e = ap (vacantBelow v) e ∙ count-none-yet (λ i. both (ltb 0 i) (isEven (v i)))
+    none e = ap (vacantBelow v) e ∙ count-none-yet (spare v)
 
     go : Dec (n ≡ 0) → Dec (v n % 2 ≡ 0) → (0 < n → v 0 % 2 ≡ 0 → oddCount v n + vacantBelow v n + 1 ≡ n) → oddCount v (suc n) + vacantBelow v (suc n) + 1 ≡ suc n
     go (yes e) d r =
-        let bit : one-if (both (ltb 0 n) (isEven (v n))) ≡ 0 = simp (le-ltb 0 n (omega arith)) in
+        let bit : one-if (spare v n) ≡ 0 = simp (le-ltb 0 n (omega arith)) in
         omega (arith, odd-more v n, more, bit, none e, ap (oddCount v) e, odd-none-yet v, ap (λ (x : ℕ). v x % 2) e)
     go (no f) (yes d) r =
-        let bit : one-if (both (ltb 0 n) (isEven (v n))) ≡ 1 = simp (lt-ltb 0 n (omega arith), eq-eqb (v n % 2) 0 d) in
+        let bit : one-if (spare v n) ≡ 1 = simp (lt-ltb 0 n (omega arith), eq-eqb (v n % 2) 0 d) in
         omega (arith, odd-more v n, more, bit, r (omega arith) z)
     go (no f) (no d) r =
-        let bit : one-if (both (ltb 0 n) (isEven (v n))) ≡ 0 = simp (lt-ltb 0 n (omega arith), ne-eqb (v n % 2) 0 d) in
+        let bit : one-if (spare v n) ≡ 0 = simp (lt-ltb 0 n (omega arith), ne-eqb (v n % 2) 0 d) in
         omega (arith, odd-more v n, more, bit, r (omega arith) z)
 
 module _ (t : Table) (m : Machine) (s : Stands t m) where

@@ -6,4 +6,5 @@ pub mod Bystander
 pub mod Events
 pub mod Slots
 pub mod Versions
+pub mod Season
 pub mod Refusals

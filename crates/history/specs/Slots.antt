@@ -1,6 +1,7 @@
 -- The slots of a table, slot 0 not counted, and the most rows ever live at once in a history.
 use Prim.Native.Nat.{ℕ, _+_, max}
 use mathlib.Core.List.{List, [], _∷_}
+use mathlib.Core.Bool.{Bool}
 use lib.Dec.{ltb}
 use Rattle.rules.specs.Choice.{both, countBelow}
 use Rattle.rules.specs.Words.{versionAt, isEven}
@@ -8,12 +9,15 @@ use Rattle.rules.specs.Runs.{oddCount}
 use Rattle.history.specs.Calls.{Call}
 use Rattle.history.specs.Histories.{Table, next}
 
--- as many as versions below used are odd; as many as are even from slot 1 up
+-- as many as versions below used are odd; as many as are even from slot 1 up, those of spare slots
 abbrev pub liveRows : Table → ℕ
 liveRows t = oddCount (versionAt (t .links) (t .header .used)) (t .header .used)
 
+abbrev pub spare : (ℕ → ℕ) → ℕ → Bool
+spare v i = both (ltb 0 i) (isEven (v i))
+
 abbrev pub vacantBelow : (ℕ → ℕ) → ℕ → ℕ
-vacantBelow v used = countBelow used (λ i. both (ltb 0 i) (isEven (v i)))
+vacantBelow v used = countBelow used (spare v)
 
 abbrev pub vacantSlots : Table → ℕ
 vacantSlots t = vacantBelow (versionAt (t .links) (t .header .used)) (t .header .used)
