@@ -9,7 +9,7 @@ use lib.Dec.{eqb}
 use borrow.Author.Tests.{eqb-true, eqb-false}
 use Rattle.rules.specs.Choice.{pick}
 use Rattle.rules.specs.Words.{lentOf, versionAt, rowAt}
-use Rattle.rules.specs.Values.{Outcome, refusal, unless}
+use Rattle.rules.specs.Values.{Values, Outcome, refusal, unless}
 use Rattle.rules.specs.Refusals.{lentNumber, liveBy}
 use Rattle.rules.specs.Start.{startRule}
 use Rattle.rules.specs.Rebuild.{rebuildNumber, rebuildRule}
@@ -20,10 +20,11 @@ use Rattle.rules.proofs.SlotTests.{vacant-no}
 use Rattle.runs.specs.Machine.{Machine}
 use Rattle.runs.specs.Steps.{lookOn}
 use Rattle.runs.specs.WholeTable.{startOn, rebuildOn}
+use Rattle.runs.proofs.Shown.{lent-shape}
 use Rattle.runs.proofs.Accessed.{look-is}
 use Rattle.runs.proofs.Begun.{start-does, rebuild-does}
-use Rattle.history.specs.Calls.{Beginning, start, rebuild, beginRule}
-use Rattle.history.specs.Histories.{Table, left, looked, Refused, Begun}
+use Rattle.history.specs.Calls.{Beginning, start, rebuild, begin, beginRule}
+use Rattle.history.specs.Histories.{Table, left, looked, Refused, Begun, GoesOn}
 use Rattle.history.proofs.Live.{Live, live-is, live-yes, look-live, look-dead}
 use Rattle.history.proofs.Reduced.{Stands}
 
@@ -69,3 +70,10 @@ rebuild-keeps l r hd bytes e k =
 
     not-live : liveBy (versionAt l n) n k ≡ false → Live m k → ⊥
     not-live q a = eqb-false 0 1 refl (cc (q, live-yes m k a))
+
+-- a start given the tables of a history is never refused: it always ends the history
+pub start-ends : (t : Table) (m : Machine) → Stands t m → GoesOn t (begin start) → ⊥
+start-ends t m s g =
+    let d = start-does (t .links) (t .rows) (t .header) (lent-shape (t .links) (t .rows) (t .header) (s .shaped)) .answer in
+    let k = ap (λ (v : Values). v .kind) d in
+    eqb-false 0 1 refl (cc)
