@@ -33,13 +33,13 @@ use Rattle.history.specs.Histories.{Table, answer, next, after, answers,
 use Rattle.history.specs.Bystander.{Book, ifGiven, reckoned}
 use Rattle.history.specs.Events.{Event, handed, removed, events, allTold, seen}
 use Rattle.history.specs.Slots.{vacantSlots, slots, most}
-use Rattle.history.specs.Versions.{refilledTimes, round}
+use Rattle.history.specs.Versions.{round}
 use Rattle.history.specs.Refusals.{Numbers}
 use Rattle.history.proofs.Live.{dead-number}
 use Rattle.history.proofs.Paths.{Path, parted}
 use Rattle.history.proofs.Books.{all-told}
-use Rattle.history.proofs.Ages.{stays-dead, handed-again, comes-round, not-before}
-use Rattle.history.proofs.Reduced.{insert-reduces, reduces}
+use Rattle.history.proofs.Ages.{stays-dead, handed-again}
+use Rattle.history.proofs.Reduced.{Stands, insert-reduces, reduces}
 use Rattle.history.proofs.Beginnings.{begun}
 use Rattle.history.proofs.Whole.{live-rows, slots-are, looked-is, Through, through}
 
@@ -47,72 +47,76 @@ module _ (t : Table) (b : Begun t) (cs : List Call) (w : Within t cs) where
   abbrev now : Table
   now = after t cs
 
-  gone : Through t (begun t b .0) cs
-  gone = through t (begun t b .0) (begun t b .1) cs w
+  -- the machine that the first table is, and that it has become
+  abbrev m : Machine
+  m = begun t b .0
+
+  first : Stands t m
+  first = begun t b .1
+
+  so-far : Through t m cs
+  so-far = through t m first cs w
+
+  abbrev m′ : Machine
+  m′ = so-far .machine
+
+  last : Stands now m′
+  last = so-far .stands
 
   -- 1. live keys and rows
   pub live-keys : (k : Key) → looked now k ≡ reckoned (looked t) cs (answers t cs) k
   live-keys k =
       ap (λ (book : Book). book k)
-      (looked-is now (gone .machine) (gone .stands) ∙ sym (gone .has)
-      ∙ ap (λ (book : Book). reckoned book cs (answers t cs)) (sym (looked-is t (begun t b .0) (begun t b .1))))
+      (looked-is now m′ last ∙ sym (so-far .has) ∙ ap (λ (book : Book). reckoned book cs (answers t cs)) (sym (looked-is t m first)))
 
   -- the events of the calls tell the same
   pub events-tell : (k : Key) → looked now k ≡ allTold (events t cs) (looked t) k
   events-tell k =
       ap (λ (book : Book). book k)
-      (looked-is now (gone .machine) (gone .stands) ∙ sym (all-told (begun t b .0) (events t cs) (gone .machine) (gone .path))
-      ∙ ap (allTold (events t cs)) (sym (looked-is t (begun t b .0) (begun t b .1))))
+      (looked-is now m′ last ∙ sym (all-told m (events t cs) m′ (so-far .path)) ∙ ap (allTold (events t cs)) (sym (looked-is t m first)))
 
   -- 2. the chain
   pub sound : (shapeNumber (now .links) (now .rows) (now .header) ≡ 0) × Sound (now .links) (now .header)
-  sound = (gone .stands .shaped, gone .stands .sound)
+  sound = (last .shaped, last .sound)
 
   pub check-passes : answer now (ask check) ≡ done
-  check-passes = check-does (now .links) (now .rows) (now .header) (gone .machine) (gone .stands) .answer
+  check-passes = check-does (now .links) (now .rows) (now .header) m′ last .answer
 
   -- 3. slots
   pub slots-law : slots now ≡ max (slots t) (most t cs)
-  slots-law = omega (arith, gone .used, slots-are now (gone .machine) (gone .stands), slots-are t (begun t b .0) (begun t b .1))
+  slots-law = omega (arith, so-far .used, slots-are now m′ last, slots-are t m first)
 
   -- no slot is lost, whatever follows; and none is added while one is vacant
   pub no-slot-lost : (ds : List Call) → Within now ds → slots now ≤ slots (after now ds)
   no-slot-lost ds v =
-      let q = through now (gone .machine) (gone .stands) ds v in
-      omega (arith, q .used, slots-are now (gone .machine) (gone .stands), slots-are (after now ds) (q .machine) (q .stands))
+      let q = through now m′ last ds v in
+      omega (arith, q .used, slots-are now m′ last, slots-are (after now ds) (q .machine) (q .stands))
 
   pub none-added : (c : Call) → GoesOn now c → vacantSlots now ≢ 0 → slots (next now c) ≡ slots now
   none-added c g v =
-      let r = reduces now (gone .machine) (gone .stands) c g in
-      let here = slots-are now (gone .machine) (gone .stands) in
-      let u = r .becomes .slots .none-added (omega (arith, here, live-rows now (gone .machine) (gone .stands))) in
-      omega (arith, here, u, slots-are (next now c) (r .machine) (r .stands))
+      let r = reduces now m′ last c g in
+      let u = r .becomes .slots .none-added (omega (arith, slots-are now m′ last, live-rows now m′ last)) in
+      omega (arith, slots-are now m′ last, u, slots-are (next now c) (r .machine) (r .stands))
 
   -- 4. dead keys: the key k is removed somewhere in the history, by whatever call, and the events fs follow
   module _ (es fs : List Event) (k : Key) (at : events t cs ≡ es ++ removed k ∷ fs) where
-    since : (x : Machine) × Path (begun t b .0) es x × Path x (removed k ∷ fs) (gone .machine)
-    since = parted (begun t b .0) es (removed k ∷ fs) (gone .machine) (subst (λ (a : List Event). Path (begun t b .0) a (gone .machine)) at (gone .path))
+    since : (x : Machine) × Path m es x × Path x (removed k ∷ fs) m′
+    since = parted m es (removed k ∷ fs) m′ (subst (λ (a : List Event). Path m a m′) at (so-far .path))
 
     pub dead : seen (k .index) (removed k ∷ fs) < round → answer now (ask (number k)) ≡ refused notLive
     dead few =
-        let n = dead-number (gone .machine) k (since .2 .1 .live .odd) (stays-dead (since .0) k fs (gone .machine) (since .2) few) in
-        ap ofNumber (key-number-is (now .links) (now .rows) (now .header) (gone .machine) (gone .stands) k ∙ n)
+        let n = dead-number m′ k (since .2 .1 .live .odd) (stays-dead (since .0) k fs m′ (since .2) few) in
+        ap ofNumber (key-number-is (now .links) (now .rows) (now .header) m′ last k ∙ n)
 
     -- sharp: after exactly so many removals an insert into that slot hands out the same key
-    pub hands-out-again : k .version < 2 ^ 32 → seen (k .index) (removed k ∷ fs) ≡ round →
-        (side : List ℕ) → answer now (insert side) .kind ≡ gives → answer now (insert side) .key .index ≡ k .index → answer now (insert side) .key ≡ k
+    pub hands-out-again : k .version < 2 ^ 32 → seen (k .index) (removed k ∷ fs) ≡ round → (side : List ℕ) →
+        let a = answer now (insert side) in a .kind ≡ gives → a .key .index ≡ k .index → a .key ≡ k
     hands-out-again word all side e i =
-        let r = insert-reduces now (gone .machine) (gone .stands) side in
-        let p = subst (λ (a : Kind). Path (gone .machine) (ifGiven a (handed (answer now (insert side) .key) side ∷ []) []) (r .machine)) e (r .becomes .path) in
-        handed-again (since .0) k fs (gone .machine) (since .2) word all (answer now (insert side) .key) side (p .0) (p .1) i
+        let a = answer now (insert side) in
+        let r = insert-reduces now m′ last side in
+        let p = subst (λ (given : Kind). Path m′ (ifGiven given (handed (a .key) side ∷ []) []) (r .machine)) e (r .becomes .path) in
+        handed-again (since .0) k fs m′ (since .2) word all (a .key) side (p .0) (p .1) i
 
   -- 5. refusals: of any call that comes next
   pub refusals : (c : Call) → GoesOn now c → Numbers now c
-  refusals c g = reduces now (gone .machine) (gone .stands) c g .numbers
-
--- 4., the version alone: so many times removed and filled again it is what it was, and never before
-pub version-comes-round : (v : ℕ) → v % 2 ≡ 1 → v < 2 ^ 32 → refilledTimes round v ≡ v
-version-comes-round = comes-round
-
-pub not-before-that : (n v : ℕ) → v % 2 ≡ 1 → v < 2 ^ 32 → 0 < n → n < round → refilledTimes n v ≢ v
-not-before-that = not-before
+  refusals c g = reduces now m′ last c g .numbers
