@@ -6,7 +6,8 @@
 -- only where it is refused (Within): one that is not begins a history of its own. Then after every call:
 --
 -- 1. The live keys are those at the start, plus those handed out, less those removed, each with its row as last written: look answers
---    for any key what a bystander has who heard the calls and their answers and never saw a table (reckoned).
+--    for any key what a bystander has who heard the calls and their answers and never saw a table (reckoned). A row handed back by a
+--    removal is that row too.
 -- 2. The table is sound: the chain from slot 0 holds exactly the maximal vacant runs, each once (Circle), and both ends of each run name
 --    the other (Ends). So the soundness check never refuses.
 -- 3. Live rows and vacant slots, slot 0 not counted (slots), are as many as at the start or as the most rows ever live at once since
@@ -28,8 +29,8 @@ use Rattle.rules.specs.declared.Key.{Key}
 use Rattle.runs.specs.Machine.{Machine}
 use Rattle.runs.proofs.Removed.{key-number-is}
 use Rattle.runs.proofs.Chosen.{check-does}
-use Rattle.history.specs.Calls.{Call, ask, number, check, insert}
-use Rattle.history.specs.Histories.{Table, answer, next, after, answers, looked, Begun, GoesOn, Within}
+use Rattle.history.specs.Calls.{Call, ask, number, check, insert, remove, drain}
+use Rattle.history.specs.Histories.{Table, outcome, answer, next, after, answers, looked, Begun, GoesOn, Within}
 use Rattle.history.specs.Bystander.{Book, ifGiven, reckoned}
 use Rattle.history.specs.Events.{Event, handed, removed, events, allTold, seen}
 use Rattle.history.specs.Slots.{vacantSlots, slots, most}
@@ -40,6 +41,7 @@ use Rattle.history.proofs.Paths.{Path, parted}
 use Rattle.history.proofs.Books.{all-told}
 use Rattle.history.proofs.Ages.{stays-dead, handed-again}
 use Rattle.history.proofs.Reduced.{Stands, insert-reduces, reduces}
+use Rattle.history.proofs.GivenBack.{remove-gives-back, drain-gives-back}
 use Rattle.history.proofs.Beginnings.{begun}
 use Rattle.history.proofs.Whole.{live-rows, slots-are, looked-is, Through, through}
 
@@ -74,6 +76,13 @@ module _ (t : Table) (b : Begun t) (cs : List Call) (w : Within t cs) where
   events-tell k =
       ap (λ (book : Book). book k)
       (looked-is now m′ last ∙ sym (all-told m (events t cs) m′ (so-far .path)) ∙ ap (allTold (events t cs)) (sym (looked-is t m first)))
+
+  -- a row that a removal hands back by value is the one that its key had
+  pub removed-row : (k : Key) → answer now (remove k) .kind ≡ gives → outcome now (remove k) .row ≡ looked now (answer now (remove k) .key)
+  removed-row = remove-gives-back now m′ last
+
+  pub drained-row : answer now drain .kind ≡ gives → outcome now drain .row ≡ looked now (answer now drain .key)
+  drained-row = drain-gives-back now m′ last
 
   -- 2. the chain
   pub sound : (shapeNumber (now .links) (now .rows) (now .header) ≡ 0) × Sound (now .links) (now .header)

@@ -7,12 +7,13 @@ pub mod Paths
 pub mod Books
 pub mod Counted
 pub mod Ages
--- What a call makes of a machine: nothing, one event, or the chosen removed; what its number tells; and, one lemma a call, that each comes
--- down to its events.
+-- What a call makes of a machine: nothing, one event, or the chosen removed; what a write through a part does; what a call's number tells;
+-- and, one lemma a call, that each comes down to its events; the row that a removal hands back.
 pub mod Becoming
 pub mod Parts
 pub mod Refusing
 pub mod Reduced
+pub mod GivenBack
 -- Where a history begins, one lemma a beginning; calls one after another; the five theorems.
 pub mod Beginnings
 pub mod Whole

@@ -159,15 +159,15 @@ module _ (t : Table) (m : Machine) (s : Shows (t .links) (t .rows) (t .header) m
       (λ e. one-event m z (wrote k side) _ (written-writes k side (live-is m k (key-live _ m k e .1)))))
 
   -- the drain step removes the lowest live slot
+  pub lowest-key : liveOf m ≢ 0 → Live m (keyOf m (lowest m))
+  lowest-key some = let low = lowest-live m z (omega (arith, some)) in record { low = low .0; odd = low .1; same = refl }
+
   pub drain-reduces : Reduces t m drain
   unfolding drainOn
   drain-reduces =
       reduced drain (drainOn m) (drain-numbers t m s) (drain-does _ _ _ m s)
       (by-pick (Tells drain) (eqb (liveOf m) 0) (stays m done) (takenOut m (keyOf m (lowest m))) (λ _. nothing m z)
-      (λ e.
-      let some : liveOf m ≢ 0 = eqb-false (liveOf m) 0 e in
-      let low = lowest-live m z (omega (arith, some)) in
-      one-event m z (removed (keyOf m (lowest m))) _ (freed-removes m (keyOf m (lowest m)) (record { low = low .0; odd = low .1; same = refl }))))
+      (λ e. one-event m z (removed (keyOf m (lowest m))) _ (freed-removes m (keyOf m (lowest m)) (lowest-key (eqb-false _ _ e)))))
 
   -- clear and retain remove the chosen
   chosen-tells : (chosen : ℕ → Bool) →
