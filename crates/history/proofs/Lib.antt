@@ -1,4 +1,4 @@
--- Why demand 3 holds. The theorems are in Demand, the last file; each file stands on those above it.
+-- Why demand 3 holds. The theorems are in Demand; each file stands on those above it.
 --
 -- A live key of a machine; what an event does to a machine, and events one after another; then, event by event: what the bystander has,
 -- how many slots are in use, how often a slot's version has gone round.
@@ -18,4 +18,6 @@ pub mod GivenBack
 pub mod Beginnings
 pub mod Whole
 pub mod Demand
+-- A history in which a removed key comes back; and a season, by computation.
+pub mod Rounds
 mod Tried
