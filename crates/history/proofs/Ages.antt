@@ -71,7 +71,7 @@ module _ (P : ℕ → ℕ → Type 0) (kept : Kept P) (i : ℕ) where
       (c .0, rw s (c .1))
 
 -- fewer removals than a round are no whole turn of the 32 bits; a round is one turn
-no-turn : (n q : ℕ) → 0 < n → n < round → q * 2 ^ 32 ≡ 2 * n → ⊥
+pub no-turn : (n q : ℕ) → 0 < n → n < round → q * 2 ^ 32 ≡ 2 * n → ⊥
 no-turn n zero p l e = omega arith
 no-turn n (suc q) p l e = omega arith
 
@@ -97,10 +97,7 @@ module _ (m : Machine) (k : Key) (es : List Event) (m′ : Machine) (p : Path m 
   came-round : k .version < 2 ^ 32 → seen (k .index) (removed k ∷ es) ≡ round → withBit (m′ .versions (k .index)) ≡ k .version
   came-round b n = one-turn _ _ b (since _ words b .1) (subst (λ (t : ℕ). Age (k .version) t (m′ .versions (k .index))) n (aged .1))
 
-  -- an occupied slot has the same key again; an insert into a vacant one hands it out again
-  pub comes-back : k .version < 2 ^ 32 → seen (k .index) (removed k ∷ es) ≡ round → m′ .versions (k .index) % 2 ≡ 1 → Live m′ k
-  comes-back b n o = record { low = aged .0; odd = p .1 .live .odd; same = omega (arith, came-round b n) }
-
+  -- an insert there hands the same key out again
   pub handed-again : k .version < 2 ^ 32 → seen (k .index) (removed k ∷ es) ≡ round →
       (x : Key) (row : List ℕ) (m″ : Machine) → Hands m′ x row m″ → x .index ≡ k .index → x ≡ k
   handed-again b n x row m″ h e =
@@ -111,9 +108,3 @@ pub refilled-is : (n w : ℕ) → w % 2 ≡ 1 → w < 2 ^ 32 → refilledTimes n
 unfolding refilledTimes
 refilled-is zero w o b = omega arith
 refilled-is (suc n) w o b = omega (arith, refilled-is n w o b)
-
-pub comes-round : (w : ℕ) → w % 2 ≡ 1 → w < 2 ^ 32 → refilledTimes round w ≡ w
-comes-round w o b = omega (arith, refilled-is round w o b)
-
-pub not-before : (n w : ℕ) → w % 2 ≡ 1 → w < 2 ^ 32 → 0 < n → n < round → refilledTimes n w ≢ w
-not-before n w o b p l e = no-turn n ((w + 2 * n) / 2 ^ 32) p l (omega (arith, refilled-is n w o b))

@@ -20,7 +20,7 @@
 use mathlib.Core.Path.{_≡_, sym, ap, _∙_, subst}
 use mathlib.Core.Logic.{_≢_}
 use mathlib.Core.List.{List, [], _∷_, _++_}
-use Prim.Native.Nat.{ℕ, _≤_, _<_, _%_, _^_, max}
+use Prim.Native.Nat.{ℕ, _+_, _*_, _/_, _≤_, _<_, _%_, _^_, max}
 use native.Mathlib.Omega.{arith}
 use Rattle.rules.specs.Values.{Kind, gives, done, ofNumber, refused}
 use Rattle.rules.specs.Refusals.{notLive, shapeNumber}
@@ -34,12 +34,12 @@ use Rattle.history.specs.Histories.{Table, outcome, answer, next, after,
 use Rattle.history.specs.Bystander.{Book, ifGiven, reckoned}
 use Rattle.history.specs.Events.{Event, handed, removed, events, allTold, seen}
 use Rattle.history.specs.Slots.{vacantSlots, slots, most}
-use Rattle.history.specs.Versions.{round}
+use Rattle.history.specs.Versions.{refilledTimes, round}
 use Rattle.history.specs.Refusals.{Numbers}
 use Rattle.history.proofs.Live.{dead-number}
 use Rattle.history.proofs.Paths.{Path, parted}
 use Rattle.history.proofs.Books.{all-told}
-use Rattle.history.proofs.Ages.{stays-dead, handed-again}
+use Rattle.history.proofs.Ages.{no-turn, stays-dead, handed-again, refilled-is}
 use Rattle.history.proofs.Reduced.{Stands, insert-reduces, reduces}
 use Rattle.history.proofs.GivenBack.{remove-gives-back, drain-gives-back}
 use Rattle.history.proofs.Beginnings.{begun}
@@ -129,3 +129,11 @@ module _ (t : Table) (b : Begun t) (cs : List Call) (w : Within t cs) where
   -- 5. refusals: of any call that comes next
   pub refusals : (c : Call) → GoesOn now c → Numbers now c
   refusals c g = reduces now m′ last c g .numbers
+
+-- 4., the version alone: so many times removed and filled again it is what it was, and never before. A history in which that happens to
+-- the key (1, 1) is in Rounds
+pub comes-round : (v : ℕ) → v % 2 ≡ 1 → v < 2 ^ 32 → refilledTimes round v ≡ v
+comes-round v o w = omega (arith, refilled-is round v o w)
+
+pub not-before : (n v : ℕ) → v % 2 ≡ 1 → v < 2 ^ 32 → 0 < n → n < round → refilledTimes n v ≢ v
+not-before n v o w p l e = no-turn n ((v + 2 * n) / 2 ^ 32) p l (omega (arith, refilled-is n v o w))

@@ -31,8 +31,8 @@ use Rattle.history.specs.Histories.{Table, left, outcome, next, after, l
 use Rattle.history.specs.Events.{events, seen}
 use Rattle.history.specs.Versions.{refilled, refilledTimes, round, rounds}
 use Rattle.history.proofs.Live.{Live, live-passes, look-live}
-use Rattle.history.proofs.Ages.{comes-round}
 use Rattle.history.proofs.Reduced.{Stands}
+use Rattle.history.proofs.Demand.{comes-round}
 
 -- a slot changed twice
 put-again : {A : Type 0} (f : ℕ → A) (i : ℕ) (x y : A) → put (put f i x) i y ≡ put f i y
@@ -93,7 +93,8 @@ module _ (row : Row) (lent : ℕ) where
         stands = rw (sym (refilled-first n v)) (r .stands);
       }
 
--- the history: a start on two slots or more, an insert, and n rounds; a round is one removal of slot 1, the first that of key (1, 1)
+-- the history: a start on two slots or more, an insert, which hands out (1, 1), and n rounds, which slot 1 sees as n removals, that of
+-- (1, 1) the first
 module _ (l r : List ℕ) (hd : Header) (ok : lentNumber (length l) (length r) ≡ 0) (two : 2 ≤ lentOf l) (row : Row) where
   abbrev t : Table
   t = left (startRule l r hd)
