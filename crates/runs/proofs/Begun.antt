@@ -1,17 +1,16 @@
 -- Start, and a rebuild that is not refused, leave a sound table of the right shape, from any words. Assumes nothing.
 use mathlib.Core.Path.{_≡_, refl, sym, ap, _∙_, subst, fun-ext}
-use mathlib.Core.Logic.{_≢_}
 use mathlib.Core.List.{List, [], _∷_}
 use mathlib.Core.Bool.{true}
 use Prim.Native.Nat.{ℕ, _-_, _*_, _≤_, _<_, _%_}
 use native.Mathlib.Decide.{ℕ-discrete}
 use native.Mathlib.Omega.{arith}
 use lib.ListN.{length}
-use borrow.Author.Tests.{eq-eqb, ne-eqb, le-ltb}
+use borrow.Author.Tests.{eq-eqb, le-ltb}
 use Rattle.rules.specs.Choice.{times}
 use Rattle.rules.specs.Words.{linkWords, rowWords, lentOf, linkAt, versionAt, nextAt, prevAt, otherEndAt, newSlot, zeroRow, rowAt, setRow, vacantAt}
 use Rattle.rules.specs.Headers.{fresh, rebuilt}
-use Rattle.rules.specs.Values.{refused, unless}
+use Rattle.rules.specs.Values.{unless}
 use Rattle.rules.specs.Refusals.{lentNumber}
 use Rattle.rules.specs.Start.{startRule}
 use Rattle.rules.specs.Rebuild.{rebuildNumber, relinked, clearedRows, rebuildRule}
@@ -20,9 +19,7 @@ use Rattle.rules.specs.declared.Header.{Header}
 use Rattle.rules.proofs.Shape.{Lent, lent}
 use Rattle.rules.proofs.Rebuild.{Tested, rebuild-passed}
 use Rattle.runs.specs.Points.{put}
-use Rattle.runs.specs.Machine.{Machine}
 use Rattle.runs.specs.Rising.{rising}
-use Rattle.runs.specs.Steps.{stays}
 use Rattle.runs.specs.WholeTable.{startOn, rebuildOn}
 use Rattle.runs.specs.Tables.{Shows, Does}
 use Rattle.runs.proofs.Points.{alike-same, alike-other, put-same, put-other}
@@ -142,9 +139,3 @@ module _ (l r bytes : List ℕ) (e : rebuildNumber l r bytes ≡ 0) where
       (rebuildOn (versionAt l n) (rowAt r n) n (lentOf l))
   unfolding rebuildRule unless
   rebuild-does hd = simp (eq-eqb _ 0 e) (record { answer = refl; row = refl; shows = rebuild-shows })
-
--- a rebuild that is turned down leaves the machine that there was
-pub rebuild-refused : (l r : List ℕ) (hd : Header) (m : Machine) → Shows l r hd m → (bytes : List ℕ) → rebuildNumber l r bytes ≢ 0 →
-    Does (rebuildRule l r hd bytes) (stays m (refused (rebuildNumber l r bytes)))
-unfolding rebuildRule unless
-rebuild-refused l r hd m s bytes e = simp (ne-eqb _ 0 e) (record { answer = refl; row = refl; shows = s })
