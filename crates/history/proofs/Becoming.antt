@@ -24,12 +24,12 @@ use Rattle.history.specs.Events.{Event, removed, allRemoved, told}
 use Rattle.history.proofs.Live.{Live, look-dead}
 use Rattle.history.proofs.Paths.{Removes, Happens, Path, one, join}
 use Rattle.history.proofs.Books.{look-alike, told-is}
-use Rattle.history.proofs.Counted.{Slots, same-slots, slots-after}
+use Rattle.history.proofs.Counted.{Lasting, same-slots, slots-after}
 
 pub record Becomes (m : Machine) (es : List Event) (book : Book) (m′ : Machine) : Type 0 where
   pub path : Path m es m′
   pub has : book ≡ lookOn m′
-  pub slots : Slots m m′
+  pub slots : Lasting m m′
 
 module _ (m : Machine) (z : Headed m) where
   pub nothing : Becomes m [] (lookOn m) m
@@ -89,8 +89,8 @@ module _ (chosen : ℕ → Bool) (m : Machine) where
         both-are : both (ltb i (m .used)) (goes chosen m i) ≡ true → ⊥
         both-are e = let g = both-true _ (chosen i) (both-true (ltb i (m .used)) _ e .1) in h (g .0) (g .1)
 
-    dead : chosen i ≡ true → Live end k → ⊥
-    dead e a = go (ℕ-discrete (m .versions i % 2) 1)
+    struck-dead : chosen i ≡ true → Live end k → ⊥
+    struck-dead e a = go (ℕ-discrete (m .versions i % 2) 1)
       where
         low : i < m .used
         low = omega (arith, a .low, left chosen m (m .used) .used)
@@ -114,7 +114,7 @@ module _ (chosen : ℕ → Bool) (m : Machine) where
 
     struck-is : struck (λ x. chosen (x .index)) (lookOn m) k ≡ lookOn end k
     struck-is =
-        by-test (λ (t : Bool). chosen i ≡ t → pick t [] (lookOn m k) ≡ lookOn end k) (chosen i) (λ _ e. sym (look-dead end k (dead e))) (λ _ e. kept e) refl
+        by-test (λ (t : Bool). chosen i ≡ t → pick t [] (lookOn m k) ≡ lookOn end k) (chosen i) (λ _ e. sym (look-dead end k (struck-dead e))) (λ _ e. kept e) refl
 
   pub all-chosen : Headed end → Becomes m (allRemoved chosen (m .versions) (m .used) (m .used)) (struck (λ x. chosen (x .index)) (lookOn m)) end
   all-chosen z = record { path = chosen-path (m .used); has = fun-ext struck-is; slots = same-slots m end z (left chosen m (m .used) .used) }

@@ -16,16 +16,16 @@ use Rattle.history.proofs.Paths.{Hands, Happens}
 use Rattle.history.proofs.Books.{changed-here, changed-not}
 
 -- none is lost, and no more are there than the live rows ever needed; none is added where another than slot 0 was vacant
-pub record Slots (m m′ : Machine) : Type 0 where
+pub record Lasting (m m′ : Machine) : Type 0 where
   pub larger : m′ .used ≡ max (m .used) (suc (liveOf m′))
-  pub none-added : liveOf m + 1 < m .used → m′ .used ≡ m .used
+  pub no-more : liveOf m + 1 < m .used → m′ .used ≡ m .used
 
 -- slot 0 is not live
 pub some-vacant : (m : Machine) → Headed m → liveOf m < m .used
 some-vacant m z = omega (arith, odd-but-one (m .versions) (m .used) 0 (z .positive) (z .even))
 
-pub same-slots : (m m′ : Machine) → Headed m′ → m′ .used ≡ m .used → Slots m m′
-same-slots m m′ z e = record { larger = omega (arith, some-vacant m′ z); none-added = λ _. e }
+pub same-slots : (m m′ : Machine) → Headed m′ → m′ .used ≡ m .used → Lasting m m′
+same-slots m m′ z e = record { larger = omega (arith, some-vacant m′ z); no-more = λ _. e }
 
 -- slot 0 stays vacant
 live-past-zero : (m : Machine) (k : Key) → Headed m → Live m k → 0 ≢ k .index
@@ -60,13 +60,13 @@ new-slot m k row m′ h e =
       h .needed e,
     )
 
-pub slots-after : (m : Machine) (e : Event) (m′ : Machine) → Happens m e m′ → Headed m → Slots m m′
+pub slots-after : (m : Machine) (e : Event) (m′ : Machine) → Happens m e m′ → Headed m → Lasting m m′
 slots-after m (handed k row) m′ h z = go (decLt (k .index) (m .used))
   where
-    go : Dec (k .index < m .used) → Slots m m′
+    go : Dec (k .index < m .used) → Lasting m m′
     go (yes q) = same-slots m m′ (still-headed m (handed k row) m′ h z) (omega (arith, h .used))
     go (no q) =
         let e : k .index ≡ m .used = omega (arith, h .low) in
-        record { larger = omega (arith, h .used, new-slot m k row m′ h e); none-added = λ l. absurd (omega (arith, h .needed e)) }
+        record { larger = omega (arith, h .used, new-slot m k row m′ h e); no-more = λ l. absurd (omega (arith, h .needed e)) }
 slots-after m (removed k) m′ h z = same-slots m m′ (still-headed m (removed k) m′ h z) (h .used)
 slots-after m (wrote k row) m′ h z = same-slots m m′ (still-headed m (wrote k row) m′ h z) (h .used)

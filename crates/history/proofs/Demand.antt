@@ -6,13 +6,14 @@
 -- only where it is refused (Within): one that is not begins a history of its own. Then after every call:
 --
 -- 1. The live keys are those at the start, plus those handed out, less those removed, each with its row as last written: look answers
---    for any key what a bystander has who heard the calls and their answers and never saw a table (reckoned). A row handed back by a
---    removal is that row too.
+--    for any key what a bystander has who heard the calls and their answers and never saw a table (reckoned). A removal hands that
+--    row back. Which keys are live at the start is told in Beginnings.
 -- 2. The table is sound: the chain from slot 0 holds exactly the maximal vacant runs, each once (Circle), and both ends of each run name
 --    the other (Ends). So the soundness check never refuses.
 -- 3. Live rows and vacant slots, slot 0 not counted (slots), are as many as at the start or as the most rows ever live at once since
 --    (most), whichever is more. So no slot is lost, and none is added while one is vacant.
--- 4. A removed key stays dead until its slot has seen 2,147,483,648 removals since, its own the first. Then it may come back: sharp.
+-- 4. A removed key stays dead until its slot has seen 2,147,483,648 removals since (seen), its own the first. No longer: after exactly so
+--    many the next insert there hands it out again.
 -- 5. 2 is never given, 5 only to an insert at a full table, and a refused call leaves tables and header as they were.
 --
 -- The calls and their rules are in specs/Calls, what a history is in specs/Histories, the bystander in specs/Bystander, what happens in a
@@ -36,14 +37,24 @@ use Rattle.history.specs.Events.{Event, handed, removed, events, allTold
 use Rattle.history.specs.Slots.{vacantSlots, slots, most}
 use Rattle.history.specs.Versions.{refilledTimes, round}
 use Rattle.history.specs.Refusals.{Numbers}
-use Rattle.history.proofs.Live.{dead-number}
+use Rattle.history.proofs.Live.{same-key, dead-number}
 use Rattle.history.proofs.Paths.{Path, parted}
 use Rattle.history.proofs.Books.{all-told}
-use Rattle.history.proofs.Ages.{no-turn, stays-dead, handed-again, refilled-is}
-use Rattle.history.proofs.Reduced.{Stands, insert-reduces, reduces}
+use Rattle.history.proofs.Ages.{live-again, filled-again, own-seen, refilled-is, refilled-word, no-turn}
+use Rattle.history.proofs.Reduced.{Stands, reduces}
 use Rattle.history.proofs.GivenBack.{remove-gives-back, drain-gives-back}
 use Rattle.history.proofs.Beginnings.{begun}
 use Rattle.history.proofs.Whole.{live-rows, slots-are, looked-is, Through, through}
+
+-- 4. of the version alone: so many times removed and filled again it is what it was, and never before. A history in which that happens
+-- to the key (1, 1) is in Rounds
+pub comes-round : (v : ℕ) → v % 2 ≡ 1 → v < 2 ^ 32 → refilledTimes round v ≡ v
+comes-round v o w = omega (arith, refilled-is round v o w)
+
+pub not-before : (n v : ℕ) → v % 2 ≡ 1 → 0 < n → n < round → refilledTimes n v ≢ v
+not-before n v o p l e =
+    let w : v < 2 ^ 32 = omega (arith, refilled-word n v p) in
+    no-turn n ((v + 2 * n) / 2 ^ 32) p l (omega (arith, refilled-is n v o w))
 
 module _ (t : Table) (b : Begun t) (cs : List Call) (w : Within t cs) where
   abbrev now : Table
@@ -78,7 +89,7 @@ module _ (t : Table) (b : Begun t) (cs : List Call) (w : Within t cs) where
       (looked-is now m′ last ∙ sym (all-told m (events t cs) m′ (so-far .path)) ∙ ap (allTold (events t cs)) (sym (looked-is t m first)))
 
   -- a row that a removal hands back by value is the one that its key had
-  pub removed-row : (k : Key) → answer now (remove k) .kind ≡ gives → outcome now (remove k) .row ≡ looked now (answer now (remove k) .key)
+  pub removed-row : (k : Key) → answer now (remove k) .kind ≡ gives → outcome now (remove k) .row ≡ looked now k
   removed-row = remove-gives-back now m′ last
 
   pub drained-row : answer now drain .kind ≡ gives → outcome now drain .row ≡ looked now (answer now drain .key)
@@ -103,18 +114,22 @@ module _ (t : Table) (b : Begun t) (cs : List Call) (w : Within t cs) where
 
   pub none-added : (c : Call) → GoesOn now c → vacantSlots now ≢ 0 → slots (next now c) ≡ slots now
   none-added c g v =
-      let r = reduces now m′ last c g in
-      let u = r .becomes .slots .none-added (omega (arith, slots-are now m′ last, live-rows now m′ last)) in
+      let r = reduces now m′ last c .goes g in
+      let u = r .becomes .slots .no-more (omega (arith, slots-are now m′ last, live-rows now m′ last)) in
       omega (arith, slots-are now m′ last, u, slots-are (next now c) (r .machine) (r .stands))
 
   -- 4. dead keys: the key k is removed somewhere in the history, by whatever call, and the events fs follow
   module _ (es fs : List Event) (k : Key) (at : events t cs ≡ es ++ removed k ∷ fs) where
-    since : (x : Machine) × Path m es x × Path x (removed k ∷ fs) m′
-    since = parted m es (removed k ∷ fs) m′ (subst (λ (a : List Event). Path m a m′) at (so-far .path))
+    parts : (x : Machine) × Path m es x × Path x (removed k ∷ fs) m′
+    parts = parted m es (removed k ∷ fs) m′ (subst (λ (a : List Event). Path m a m′) at (so-far .path))
+
+    odd : k .version % 2 ≡ 1
+    odd = parts .2 .1 .live .odd
 
     pub dead : seen (k .index) (removed k ∷ fs) < round → answer now (ask (number k)) ≡ refused notLive
     dead few =
-        let n = dead-number m′ k (since .2 .1 .live .odd) (stays-dead (since .0) k fs m′ (since .2) few) in
+        let seen-once = own-seen (parts .0) k fs m′ (parts .2) in
+        let n = dead-number m′ k odd (λ a. not-before _ (k .version) odd seen-once few (live-again (parts .0) k fs m′ (parts .2) a)) in
         ap ofNumber (key-number-is (now .links) (now .rows) (now .header) m′ last k ∙ n)
 
     -- sharp: after exactly so many removals an insert into that slot hands out the same key
@@ -122,18 +137,11 @@ module _ (t : Table) (b : Begun t) (cs : List Call) (w : Within t cs) where
         let a = answer now (insert side) in a .kind ≡ gives → a .key .index ≡ k .index → a .key ≡ k
     hands-out-again word all side e i =
         let a = answer now (insert side) in
-        let r = insert-reduces now m′ last side in
+        let r = reduces now m′ last (insert side) .goes tt in
         let p = subst (λ (given : Kind). Path m′ (ifGiven given (handed (a .key) side ∷ []) []) (r .machine)) e (r .becomes .path) in
-        handed-again (since .0) k fs m′ (since .2) word all (a .key) side (p .0) (p .1) i
+        let v = filled-again (parts .0) k fs m′ (parts .2) (a .key) side (p .0) (p .1) i in
+        same-key (a .key) k i (v ∙ ap (λ (n : ℕ). refilledTimes n (k .version)) all ∙ comes-round (k .version) odd word)
 
   -- 5. refusals: of any call that comes next
-  pub refusals : (c : Call) → GoesOn now c → Numbers now c
-  refusals c g = reduces now m′ last c g .numbers
-
--- 4., the version alone: so many times removed and filled again it is what it was, and never before. A history in which that happens to
--- the key (1, 1) is in Rounds
-pub comes-round : (v : ℕ) → v % 2 ≡ 1 → v < 2 ^ 32 → refilledTimes round v ≡ v
-comes-round v o w = omega (arith, refilled-is round v o w)
-
-pub not-before : (n v : ℕ) → v % 2 ≡ 1 → v < 2 ^ 32 → 0 < n → n < round → refilledTimes n v ≢ v
-not-before n v o w p l e = no-turn n ((v + 2 * n) / 2 ^ 32) p l (omega (arith, refilled-is n v o w))
+  pub refusals : (c : Call) → Numbers now c
+  refusals c = reduces now m′ last c .numbers

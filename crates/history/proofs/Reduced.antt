@@ -32,7 +32,7 @@ use Rattle.runs.proofs.Chosen.{chosen-does, check-does, clear-does, retain-does
 use Rattle.runs.proofs.Accessed.{room-does, written-shows, replace-does}
 use Rattle.runs.proofs.Full.{place-run, none-vacant}
 use Rattle.history.specs.Calls.{Row, Beginning, Question, number, look, hop, check, room, Call, begin, ask, insert, remove, write, replace, drain, clear, retain, writeRule}
-use Rattle.history.specs.Histories.{Table, outcome, answer, next, Refused, GoesOn}
+use Rattle.history.specs.Histories.{Table, outcome, answer, next, GoesOn}
 use Rattle.history.specs.Bystander.{struck, noted}
 use Rattle.history.specs.Events.{Event, removed, wrote, allRemoved, chosenRemoved, happening}
 use Rattle.history.specs.Refusals.{Numbers}
@@ -45,11 +45,16 @@ use Rattle.history.proofs.Refusing.{insert-numbers, remove-numbers, wri
 abbrev pub Stands : Table → Machine → Type 0
 Stands t m = Shows (t .links) (t .rows) (t .header) m
 
-pub record Reduces (t : Table) (m : Machine) (c : Call) : Type 0 where
+-- what the call leaves and what happened, told by its answer
+pub record Happened (t : Table) (m : Machine) (c : Call) : Type 0 where
   pub machine : Machine
   pub stands : Stands (next t c) machine
   pub becomes : Becomes m (happening t c (answer t c)) (noted c (answer t c) (lookOn m)) machine
+
+-- any call has its numbers; one that goes on with the history comes down to its events
+pub record Reduces (t : Table) (m : Machine) (c : Call) : Type 0 where
   pub numbers : Numbers t c
+  pub goes : GoesOn t c → Happened t m c
 
 module _ (t : Table) (m : Machine) (s : Shows (t .links) (t .rows) (t .header) m) where
   z : Headed m
@@ -62,10 +67,12 @@ module _ (t : Table) (m : Machine) (s : Shows (t .links) (t .rows) (t .header) m
   reduced : (c : Call) (x : Step) → Numbers t c → Does (outcome t c) x → Tells c x → Reduces t m c
   reduced c x n d b =
       record {
-        machine = x .machine;
-        stands = d .shows;
-        becomes = subst (λ (a : Values). Becomes m (happening t c a) (noted c a (lookOn m)) (x .machine)) (sym (d .answer)) b;
         numbers = n;
+        goes = λ _. record {
+          machine = x .machine;
+          stands = d .shows;
+          becomes = subst (λ (a : Values). Becomes m (happening t c a) (noted c a (lookOn m)) (x .machine)) (sym (d .answer)) b;
+        };
       }
 
   fronts : Fronts (m .versions) (m .used) (m .fronts)
@@ -131,20 +138,20 @@ module _ (t : Table) (m : Machine) (s : Shows (t .links) (t .rows) (t .header) m
   written-writes k row a = record { live = a; versions = refl; rows = refl; used = refl }
 
   pub write-reduces : (k : Key) (row : Row) → Reduces t m (write k row)
-  write-reduces k row = go (ℕ-discrete (keyNumber (t .links) (t .rows) (t .header) k) 0)
+  write-reduces k row =
+      record { numbers = write-numbers t m s k row; goes = λ _. go (ℕ-discrete (keyNumber (t .links) (t .rows) (t .header) k) 0) }
     where
       -- the rows that are left, and what the answer tells
       leaves : (r : List ℕ) (x : Machine) → writeRule (t .links) (t .rows) (t .header) k row .rows ≡ r → Shows (t .links) r (t .header) x →
-          (a : Values) → answer t (write k row) ≡ a → Becomes m (happening t (write k row) a) (noted (write k row) a (lookOn m)) x → Reduces t m (write k row)
+          (a : Values) → answer t (write k row) ≡ a → Becomes m (happening t (write k row) a) (noted (write k row) a (lookOn m)) x → Happened t m (write k row)
       leaves r x e sh a f b =
           record {
             machine = x;
             stands = subst (λ (y : List ℕ). Shows (t .links) y (t .header) x) (sym e) sh;
             becomes = subst (λ (v : Values). Becomes m (happening t (write k row) v) (noted (write k row) v (lookOn m)) x) (sym f) b;
-            numbers = write-numbers t m s k row;
           }
 
-      go : Dec (keyNumber (t .links) (t .rows) (t .header) k ≡ 0) → Reduces t m (write k row)
+      go : Dec (keyNumber (t .links) (t .rows) (t .header) k ≡ 0) → Happened t m (write k row)
       go (yes e) =
           let alive = passes-live m k (sym (key-number-is _ _ _ m s k) ∙ e) in
           leaves _ _ (written-live _ _ _ k row e) (written-shows _ _ _ m s (k .index) (row .words) (alive .low) (row .eight)) done (ap ofNumber e)
@@ -187,28 +194,32 @@ module _ (t : Table) (m : Machine) (s : Shows (t .links) (t .rows) (t .header) m
       reduced (retain bytes) (retainOn m bytes) (retain-numbers t m s bytes) (retain-does _ _ _ m s bytes)
       (unless-tells (retain bytes) (sideNumber passes (length bytes) (m .used)) _ (nothing m z) (λ _. chosen-tells (struckBy bytes)))
 
+  -- where the table is left as it was, nothing happened
+  unmoved : (c : Call) → next t c ≡ t → Becomes m (happening t c (answer t c)) (noted c (answer t c) (lookOn m)) m → Happened t m c
+  unmoved c e b = record { machine = m; stands = subst (λ (x : Table). Stands x m) (sym e) s; becomes = b }
+
   -- questions
   pub ask-reduces : (q : Question) → Reduces t m (ask q)
-  ask-reduces (number k) = record { machine = m; stands = s; becomes = nothing m z; numbers = ask-numbers t m s (number k) }
-  ask-reduces (look k) = record { machine = m; stands = s; becomes = nothing m z; numbers = ask-numbers t m s (look k) }
+  ask-reduces (number k) = record { numbers = ask-numbers t m s (number k); goes = λ _. unmoved (ask (number k)) refl (nothing m z) }
+  ask-reduces (look k) = record { numbers = ask-numbers t m s (look k); goes = λ _. unmoved (ask (look k)) refl (nothing m z) }
   ask-reduces (hop c) = reduced (ask (hop c)) (hopOn m c) (ask-numbers t m s (hop c)) (hop-does _ _ _ m s c) (nothing m z)
   ask-reduces check = reduced (ask check) (checkOn m) (ask-numbers t m s check) (check-does _ _ _ m s) (nothing m z)
   ask-reduces room = reduced (ask room) (roomOn m) (ask-numbers t m s room) (room-does _ _ _ m s) (nothing m z)
 
-  -- a start or a rebuild that is refused
-  pub begin-reduces : (b : Beginning) → Refused (outcome t (begin b)) → Reduces t m (begin b)
-  begin-reduces b e =
+  -- a start or a rebuild goes on with the history only where it is refused
+  pub begin-reduces : (b : Beginning) → Reduces t m (begin b)
+  begin-reduces b =
       let n = begin-numbers t m s b in
-      record { machine = m; stands = subst (λ (x : Table). Stands x m) (sym (n .unmoved e)) s; becomes = nothing m z; numbers = n }
+      record { numbers = n; goes = λ g. unmoved (begin b) (n .unmoved g) (nothing m z) }
 
--- any call of a history
-pub reduces : (t : Table) (m : Machine) → Stands t m → (c : Call) → GoesOn t c → Reduces t m c
-reduces t m s (begin b) g = begin-reduces t m s b g
-reduces t m s (ask q) g = ask-reduces t m s q
-reduces t m s (insert side) g = insert-reduces t m s side
-reduces t m s (remove k) g = remove-reduces t m s k
-reduces t m s (write k row) g = write-reduces t m s k row
-reduces t m s (replace k side) g = replace-reduces t m s k side
-reduces t m s drain g = drain-reduces t m s
-reduces t m s clear g = clear-reduces t m s
-reduces t m s (retain bytes) g = retain-reduces t m s bytes
+-- any call
+pub reduces : (t : Table) (m : Machine) → Stands t m → (c : Call) → Reduces t m c
+reduces t m s (begin b) = begin-reduces t m s b
+reduces t m s (ask q) = ask-reduces t m s q
+reduces t m s (insert side) = insert-reduces t m s side
+reduces t m s (remove k) = remove-reduces t m s k
+reduces t m s (write k row) = write-reduces t m s k row
+reduces t m s (replace k side) = replace-reduces t m s k side
+reduces t m s drain = drain-reduces t m s
+reduces t m s clear = clear-reduces t m s
+reduces t m s (retain bytes) = retain-reduces t m s bytes

@@ -12,8 +12,8 @@ use Rattle.rules.specs.Words.{lentOf, zeroRow, withBit, rise}
 use Rattle.rules.specs.Values.{Values, keyed}
 use Rattle.rules.specs.Refusals.{_▸_, lentNumber, sideNumber}
 use Rattle.rules.specs.Start.{startRule}
+use Rattle.rules.specs.Bench.{key}
 use Rattle.rules.specs.declared.Header.{Header}
-use Rattle.rules.specs.declared.Key.{Key}
 use Rattle.rules.proofs.Choice.{by-test}
 use Rattle.runs.specs.Points.{put}
 use Rattle.runs.specs.Machine.{Machine, backWithin, frontsAfter}
@@ -29,7 +29,8 @@ use Rattle.runs.proofs.Begun.{start-does}
 use Rattle.history.specs.Calls.{Row, start, Call, insert, remove}
 use Rattle.history.specs.Histories.{Table, left, outcome, next, after, looked, Begun, Within}
 use Rattle.history.specs.Events.{events, seen}
-use Rattle.history.specs.Versions.{refilled, refilledTimes, round, rounds}
+use Rattle.history.specs.Versions.{refilled, refilledTimes, round}
+use Rattle.history.specs.Rounds.{rounds}
 use Rattle.history.proofs.Live.{Live, live-passes, look-live}
 use Rattle.history.proofs.Reduced.{Stands}
 use Rattle.history.proofs.Demand.{comes-round}
@@ -45,18 +46,15 @@ unfolding refilledTimes
 refilled-first zero v = refl
 refilled-first (suc n) v = ap refilled (refilled-first n v)
 
-abbrev key : ℕ → Key
-key v = record { index = 1; version = v }
-
 module _ (row : Row) (lent : ℕ) where
   -- slot 1 alone in use beside slot 0
   abbrev alone : ℕ → List ℕ → Machine
   alone v words = record { versions = put (λ _. 0) 1 v; rows = put (λ _. zeroRow) 1 words; used = 2; fronts = []; lent = lent }
 
   abbrev filled : ℕ → Step
-  filled v = record { answer = keyed (key v); row = zeroRow; machine = alone v (row .words) }
+  filled v = record { answer = keyed (key 1 v); row = zeroRow; machine = alone v (row .words) }
 
-  live : (v : ℕ) → v % 2 ≡ 1 → Live (alone v (row .words)) (key v)
+  live : (v : ℕ) → v % 2 ≡ 1 → Live (alone v (row .words)) (key 1 v)
   unfolding put
   live v o = record { low = omega arith; odd = o; same = refl }
 
@@ -69,9 +67,9 @@ module _ (row : Row) (lent : ℕ) where
   filled-again v e = simp (eq-eqb _ _ (row .eight), eq-eqb _ _ e, put-again)
 
   emptied-again : (v : ℕ) → v % 2 ≡ 1 →
-      removeOn (alone v (row .words)) (key v) ≡ record { answer = keyed (key v); row = row .words; machine = alone (rise v) zeroRow }
+      removeOn (alone v (row .words)) (key 1 v) ≡ record { answer = keyed (key 1 v); row = row .words; machine = alone (rise v) zeroRow }
   unfolding removeOn freedOn frontsAfter put
-  emptied-again v o = simp (live-passes (alone v (row .words)) (key v) (live v o), put-again)
+  emptied-again v o = simp (live-passes (alone v (row .words)) (key 1 v) (live v o), put-again)
 
   -- calls that see slot 1 emptied n times, and leave the row there under the version v
   record Leaves (t : Table) (cs : List Call) (n v : ℕ) : Type 0 where
@@ -83,8 +81,8 @@ module _ (row : Row) (lent : ℕ) where
   unfolding rounds refilledTimes
   rounds-leave zero v o t s = record { within = tt; count = refl; stands = s }
   rounds-leave (suc n) v o t s =
-      let u = next t (remove (key v)) in
-      let d = subst (Does (outcome t (remove (key v)))) (emptied-again v o) (remove-does _ _ _ _ s (key v)) in
+      let u = next t (remove (key 1 v)) in
+      let d = subst (Does (outcome t (remove (key 1 v)))) (emptied-again v o) (remove-does _ _ _ _ s (key 1 v)) in
       let e = subst (Does (outcome u (insert (row .words)))) (filled-again (rise v) (rise-even v o)) (insert-does _ _ _ _ (d .shows) (row .words)) in
       let r = rounds-leave n (refilled v) (omega arith) (next u (insert (row .words))) (e .shows) in
       record {
@@ -120,9 +118,9 @@ module _ (l r : List ℕ) (hd : Header) (ok : lentNumber (length l) (length r) �
   pub rounds-seen : (n : ℕ) → seen 1 (events t (calls n)) ≡ n
   rounds-seen n = calls-leave n .count
 
-  pub comes-back : looked (after t (calls round)) (record { index = 1; version = 1 }) ≡ row .words
+  pub comes-back : looked (after t (calls round)) (key 1 1) ≡ row .words
   unfolding put
   comes-back =
       let m : ℕ → Machine = λ v. alone row (lentOf l) v (row .words) in
       let s = subst (λ (v : ℕ). Stands (after t (calls round)) (m v)) (comes-round 1 refl (omega arith)) (calls-leave round .stands) in
-      look-is _ _ _ _ s (key 1) ∙ look-live (m 1) (key 1) (live row (lentOf l) 1 refl)
+      look-is _ _ _ _ s (key 1 1) ∙ look-live (m 1) (key 1 1) (live row (lentOf l) 1 refl)

@@ -1,6 +1,6 @@
 -- Calls one after another: the events of all of them, what the bystander has, and the slots in use. Assumes nothing.
-use mathlib.Core.Path.{_≡_, refl, ap, _∙_, fun-ext}
-use mathlib.Core.List.{List, [], _∷_}
+use mathlib.Core.Path.{_≡_, refl, sym, ap, _∙_, fun-ext}
+use mathlib.Core.List.{List, [], _∷_, _++_, append-assoc}
 use Prim.Native.Nat.{ℕ, zero, suc, _+_, _≤_, _<_, _%_, max}
 use native.Mathlib.Decide.{ℕ-discrete}
 use native.Mathlib.Omega.{arith}
@@ -15,7 +15,7 @@ use Rattle.runs.proofs.Accessed.{look-is}
 use Rattle.history.specs.Calls.{Call}
 use Rattle.history.specs.Histories.{Table, looked, next, after, answer, answers, Within}
 use Rattle.history.specs.Bystander.{Book, reckoned}
-use Rattle.history.specs.Events.{events, happening}
+use Rattle.history.specs.Events.{Event, events, happening}
 use Rattle.history.specs.Slots.{liveRows, spare, vacantBelow, slots, most}
 use Rattle.history.proofs.Paths.{Path, join}
 use Rattle.history.proofs.Counted.{some-vacant}
@@ -47,9 +47,6 @@ module _ (t : Table) (m : Machine) (s : Stands t m) where
   pub live-rows : liveRows t ≡ liveOf m
   live-rows = ap liveOf (s .same)
 
-  pub used-is : t .header .used ≡ m .used
-  used-is = ap (λ (x : Machine). x .used) (s .same)
-
   -- slots in use are those counted, and slot 0
   pub slots-are : slots t + 1 ≡ m .used
   slots-are =
@@ -76,7 +73,7 @@ pub through : (t : Table) (m : Machine) → Stands t m → (cs : List Call) → 
 through t m s [] w =
     record { machine = m; stands = s; path = refl; has = refl; used = omega (arith, some-vacant m (headed _ _ _ m s), live-rows t m s) }
 through t m s (c ∷ cs) w =
-    let r = reduces t m s c (w .0) in
+    let r = reduces t m s c .goes (w .0) in
     let q = through (next t c) (r .machine) (r .stands) cs (w .1) in
     record {
       machine = q .machine;
@@ -93,3 +90,10 @@ through t m s (c ∷ cs) w =
         most-now (next t c) cs,
       );
     }
+
+-- calls in two parts: the events of the second follow those of the first
+pub events-follow : (t : Table) (cs ds : List Call) → events t (cs ++ ds) ≡ events t cs ++ events (after t cs) ds
+events-follow t [] ds = refl
+events-follow t (c ∷ cs) ds =
+    ap (λ (es : List Event). happening t c (answer t c) ++ es) (events-follow (next t c) cs ds)
+    ∙ sym (append-assoc (happening t c (answer t c)) (events (next t c) cs) (events (after (next t c) cs) ds))

@@ -1,4 +1,5 @@
--- One type that has every public call with its arguments, and the rule of each: the very definition that the call's contract cites.
+-- One type that has every public call with its arguments, and the rule of each, which is the definition that the call's contract cites.
+-- Key number answers a number alone and a look a part alone; tables and header, unchanged, are put around what their contracts name.
 use Prim.Native.Nat.{ℕ}
 use mathlib.Core.List.{List}
 use mathlib.Core.Path.{_≡_}
@@ -53,7 +54,7 @@ abbrev pub beginRule : Beginning → List ℕ → List ℕ → Header → Outcom
 beginRule start l r hd = startRule l r hd
 beginRule (rebuild bytes) l r hd = rebuildRule l r hd bytes
 
--- key number names a number. A look names none, so the one that key number names stands for it, beside the words of its part
+-- a look names no number, so the one that key number names stands for its answer, beside the words of its part
 abbrev pub askRule : Question → List ℕ → List ℕ → Header → Outcome
 askRule (number k) l r hd = plain (ofNumber (keyNumber l r hd k)) hd l r
 askRule (look k) l r hd =
@@ -62,7 +63,7 @@ askRule (hop c) l r hd = hopRule l r hd c
 askRule check l r hd = checkRule l r hd
 askRule room l r hd = roomRule l r hd
 
--- look_mut hands out the same part as look, and the caller writes eight words over it; a part without words takes none
+-- look_mut hands out the same part as look, with look's answer, and the caller writes eight words over it; a part without words takes none
 abbrev pub writeRule : List ℕ → List ℕ → Header → Key → Row → Outcome
 writeRule l r hd k row =
     record {

@@ -14,6 +14,7 @@ pub record Table : Type 0 where
   pub rows : List ℕ
   pub header : Header
 
+-- the table that a call leaves
 abbrev pub left : Outcome → Table
 left o = record { links = o .links; rows = o .rows; header = o .header }
 

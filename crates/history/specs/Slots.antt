@@ -9,7 +9,7 @@ use Rattle.rules.specs.Runs.{oddCount}
 use Rattle.history.specs.Calls.{Call}
 use Rattle.history.specs.Histories.{Table, next}
 
--- as many as versions below used are odd; as many as are even from slot 1 up, those of spare slots
+-- live rows: the odd versions below used; vacant slots: the even ones from slot 1 up, those of spare slots
 abbrev pub liveRows : Table → ℕ
 liveRows t = oddCount (versionAt (t .links) (t .header .used)) (t .header .used)
 
