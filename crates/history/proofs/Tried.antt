@@ -35,12 +35,15 @@ tried =
       };
       within = (tt, (tt, (tt, (tt, (tt, (tt, (tt, (tt, (tt, (refl, (tt, (tt, (tt, (tt, (tt, (tt, (tt, (tt, (tt, tt)))))))))))))))))));
       answered = refl;
-      known = refl;
-      found = refl;
-      emptied = refl;
-      written = refl;
+      early-known = refl;
+      early-found = refl;
+      middle-known = refl;
+      middle-found = refl;
+      first-words = refl;
+      early-words = refl;
+      handed-back = refl;
       happened = refl;
-      twice = refl;
+      removals = refl;
       lasting = refl;
       highest = refl;
     }

@@ -10,7 +10,7 @@ use Rattle.rules.specs.Refusals.{shape, notLive, full}
 use Rattle.rules.specs.Bench.{lend, buoy, key}
 use Rattle.rules.specs.declared.Key.{Key}
 use Rattle.history.specs.Calls.{Row, start, rebuild, number, hop, check, room, Call, begin, ask, insert, remove, write, replace, drain, clear, retain, beginRule}
-use Rattle.history.specs.Histories.{Table, left, looked, after, answers, Begun, Within}
+use Rattle.history.specs.Histories.{Table, left, outcome, looked, after, answers, Begun, Within}
 use Rattle.history.specs.Bystander.{reckoned}
 use Rattle.history.specs.Events.{Event, handed, removed, wrote, events, seen}
 use Rattle.history.specs.Slots.{slots, most}
@@ -42,23 +42,22 @@ early =
     ∷ (write (key 1 3) (row 5), done)
     ∷ [])
 
--- a rebuild of no slots is refused; the table fills; slot 2 is struck out, the lowest drained, one more heard, and all cleared
-abbrev pub late : List (Call × Values)
-late =
-    (begin (rebuild []), refused shape)
+-- a rebuild of no slots is refused; the table fills; slot 2 is struck out, the lowest drained, and one more heard
+abbrev pub middle : List (Call × Values)
+middle =
+    early
+    ++ ((begin (rebuild []), refused shape)
     ∷ (insert (buoy 6), keyed (key 3 1))
     ∷ (insert (buoy 7), refused full)
     ∷ (ask (hop 0), visited (key 1 3) 2)
     ∷ (retain (0 ∷ 1 ∷ 0 ∷ 1 ∷ []), counted 1)
     ∷ (drain, keyed (key 1 3))
     ∷ (insert (buoy 8), keyed (key 2 3))
-    ∷ (clear, done)
-    ∷ (ask check, done)
-    ∷ (ask room, counted 4)
-    ∷ []
+    ∷ [])
 
+-- all is cleared
 abbrev pub season : List (Call × Values)
-season = early ++ late
+season = middle ++ ((clear, done) ∷ (ask check, done) ∷ (ask room, counted 4) ∷ [])
 
 abbrev pub calls : List (Call × Values) → List Call
 calls = map (λ (x : Call × Values). x .0)
@@ -83,22 +82,36 @@ story =
     ∷ removed (key 3 1)
     ∷ []
 
--- the row of each of these keys after the early calls
 abbrev keys : List Key
-keys = key 1 1 ∷ key 1 3 ∷ key 2 1 ∷ key 2 3 ∷ []
+keys = key 1 1 ∷ key 1 3 ∷ key 2 1 ∷ key 2 3 ∷ key 3 1 ∷ []
 
-abbrev rows : List (List ℕ)
-rows = [] ∷ buoy 5 ∷ buoy 4 ∷ [] ∷ []
+-- what the bystander has of these keys, and what look hands out for them, after the calls
+abbrev known : List (Call × Values) → List (List ℕ)
+known told = map (reckoned (λ k. []) (calls told) (heard told)) keys
+
+abbrev found : List (Call × Values) → List (List ℕ)
+found told = map (looked (after opened (calls told))) keys
+
+-- the rows of the first three slots
+abbrev words : List (Call × Values) → List ℕ
+words told = take (3 * rowWords) (after opened (calls told) .rows)
 
 pub record Told : Type 0 where
+  -- it is a history, with these answers
   pub begun : Begun opened
   pub within : Within opened (calls season)
   pub answered : answers opened (calls season) ≡ heard season
-  pub known : map (reckoned (λ k. []) (calls early) (heard early)) keys ≡ rows
-  pub found : map (looked (after opened (calls early))) keys ≡ rows
-  pub emptied : take (3 * rowWords) (after opened (calls lost) .rows) ≡ zeroRow ++ zeroRow ++ buoy 2
-  pub written : take (3 * rowWords) (after opened (calls early) .rows) ≡ zeroRow ++ buoy 5 ++ buoy 4
+  -- live keys and rows, as reckoned and as they are, early and in the middle; the rows of slots 0 to 2; a row handed back
+  pub early-known : known early ≡ [] ∷ buoy 5 ∷ buoy 4 ∷ [] ∷ [] ∷ []
+  pub early-found : found early ≡ [] ∷ buoy 5 ∷ buoy 4 ∷ [] ∷ [] ∷ []
+  pub middle-known : known middle ≡ [] ∷ [] ∷ [] ∷ buoy 8 ∷ buoy 6 ∷ []
+  pub middle-found : found middle ≡ [] ∷ [] ∷ [] ∷ buoy 8 ∷ buoy 6 ∷ []
+  pub first-words : words lost ≡ zeroRow ++ zeroRow ++ buoy 2
+  pub early-words : words early ≡ zeroRow ++ buoy 5 ++ buoy 4
+  pub handed-back : outcome (after opened (calls early)) drain .row ≡ buoy 5
+  -- what happened; removals at slots 1, 2 and 3
   pub happened : events opened (calls season) ≡ story
-  pub twice : seen 2 story ≡ 2
+  pub removals : map (λ i. seen i story) (1 ∷ 2 ∷ 3 ∷ []) ≡ 2 ∷ 2 ∷ 1 ∷ []
+  -- slots in the end, and the most rows ever live
   pub lasting : slots (after opened (calls season)) ≡ 3
   pub highest : most opened (calls season) ≡ 3
