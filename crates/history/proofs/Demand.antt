@@ -1,9 +1,9 @@
 -- Demand 3, in our words.
 --
 -- Take a table that a start or a rebuild has left without a refusal (Begun), and then any calls at all, whatever their arguments, refused
--- ones among them, each given the same two tables and the header that the call before it handed back (after). Nobody else writes a
--- word of the tables but a row through its live key, and that is a call here too (write). A start or a rebuild in mid-history counts
--- only where it is refused (Within): one that is not begins a history of its own. Then after every call:
+-- ones among them, each given the same two tables and the header last handed back (after). Between calls nobody writes a word of the
+-- tables but a row through its live key, and that is a call here too (write). A start or a rebuild in mid-history counts only where it is
+-- refused (Within): one that is not begins a history of its own. Then after every call:
 --
 -- 1. The live keys are those at the start, plus those handed out, less those removed, each with its row as last written: look answers
 --    for any key what a bystander has who heard the calls and their answers and never saw a table (reckoned). A removal hands that
