@@ -1,15 +1,13 @@
-// Insert: first every refusal, by reading alone (numbers); then one of three steps. hop.rs 426-487
+// Insert: first every refusal, by reading alone (followed); then one of three steps. hop.rs 426-487
 // The steps' counts grow by one in 32 bits: what they ask of their caller is that there is room.
-mod numbers;
-
 ghost use mathlib.Core.Path.{_≡_};
 ghost use Prim.Native.Nat.{_-_, _<_, _^_};
 ghost use Rattle.rules.specs.Words.{withBit};
 ghost use Rattle.rules.specs.Values.{inserted};
 ghost use Rattle.rules.specs.Insert.{takeNew, takeSlot, insertStep, insertRule};
 use chain::shorten;
-use numbers::insert_links;
-use numbers::insert_number;
+use followed::insert_links;
+use followed::insert_number;
 use rules::Header;
 use rules::Inserted;
 use rules::Key;

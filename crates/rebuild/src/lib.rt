@@ -1,16 +1,14 @@
 // Rebuild: versions and rows that another hand put in place become a map. First every refusal, by reading alone (presence);
-// then the rows of vacant slots are cleared and the slots linked anew. hop.rs 1379-1404 and 1417-1472
-mod clearing;
+// then the rows of vacant slots are cleared and the slots linked anew (relink). hop.rs 1379-1404 and 1417-1472
 mod presence;
-mod relinking;
 
 ghost use mathlib.Core.Path.{_≡_};
 ghost use Rattle.rules.specs.Values.{numbered};
 ghost use Rattle.rules.specs.Rebuild.{rebuildRule};
-pub use clearing::clear_vacant_rows;
 use presence::rebuild_number;
 use refusals::PASSES;
-pub use relinking::relink;
+use relink::clear_vacant_rows;
+use relink::relink;
 use rules::Header;
 use rules::Numbered;
 

@@ -1,14 +1,12 @@
-// Remove: first every refusal, by reading alone (numbers); then the slot joins the chain of vacant runs (chain), its version rises
+// Remove: first every refusal, by reading alone (followed); then the slot joins the chain of vacant runs (chain), its version rises
 // and its row goes out. hop.rs 492-556 and 570-578
-mod numbers;
-
 ghost use mathlib.Core.Path.{_≡_};
 ghost use Rattle.rules.specs.Words.{zeroRow};
 ghost use Rattle.rules.specs.Values.{removed};
 ghost use Prim.Native.Nat.{_<_};
 ghost use Rattle.rules.specs.Remove.{beside, removeStep, removeSlot, removeAt, removeRule};
 use chain::free;
-use numbers::remove_number;
+use followed::remove_number;
 use refusals::key_number;
 use rules::DAMAGED;
 use rules::Header;
