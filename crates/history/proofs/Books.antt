@@ -9,15 +9,13 @@ use borrow.Author.Tests.{eq-eqb, ne-eqb}
 use Rattle.rules.specs.Choice.{pick}
 use Rattle.rules.specs.Refusals.{passes}
 use Rattle.rules.specs.declared.Key.{Key}
-use Rattle.runs.specs.Points.{put}
 use Rattle.runs.specs.Machine.{Machine}
 use Rattle.runs.specs.Steps.{keyNumberOn, lookOn}
-use Rattle.runs.proofs.Points.{put-same, put-other}
 use Rattle.runs.proofs.Counts.{rise-even}
 use Rattle.history.specs.Bystander.{sameKey}
 use Rattle.history.specs.Events.{Event, handed, removed, wrote, told, allTold}
 use Rattle.history.proofs.Live.{same-key, Live, live-passes, passes-live, look-live, look-dead}
-use Rattle.history.proofs.Paths.{Hands, Removes, Writes, Happens, Path}
+use Rattle.history.proofs.Paths.{Hands, Removes, Writes, Happens, Path, changed-here, changed-not}
 
 -- machines that have one version and one row at a key's slot answer alike
 pub look-alike : (m m′ : Machine) (k : Key) → m′ .versions (k .index) ≡ m .versions (k .index) → m′ .rows (k .index) ≡ m .rows (k .index) →
@@ -29,20 +27,18 @@ look-alike m m′ k v r there back = go (ℕ-discrete (keyNumberOn passes m k) 0
         let a = passes-live m k e in
         look-live m k a ∙ sym r ∙ sym (look-live m′ k (record { low = there (a .low); odd = a .odd; same = v ∙ a .same }))
     go (no n) =
-        look-dead m k (λ a. n (alive a)) ∙ sym (look-dead m′ k (λ a. n (alive (record { low = back (a .low); odd = a .odd; same = sym v ∙ a .same }))))
-      where
-        alive : Live m k → keyNumberOn passes m k ≡ 0
-        alive a = live-passes m k a
+        look-dead m k (λ a. n (live-passes m k a))
+        ∙ sym (look-dead m′ k (λ a. n (live-passes m k (record { low = back (a .low); odd = a .odd; same = sym v ∙ a .same }))))
 
 -- at one slot something changed: look answers `out` for key k now, and for no other key of that slot, before or after
-pub record OneSlot (m m′ : Machine) (k : Key) (out : List ℕ) : Type 0 where
-  pub versions : (j : ℕ) → j ≢ k .index → m′ .versions j ≡ m .versions j
-  pub rows : (j : ℕ) → j ≢ k .index → m′ .rows j ≡ m .rows j
-  pub there : (j : ℕ) → j ≢ k .index → j < m .used → j < m′ .used
-  pub back : (j : ℕ) → j ≢ k .index → j < m′ .used → j < m .used
-  pub now : lookOn m′ k ≡ out
-  pub none-before : (w : ℕ) → w ≢ k .version → Live m (record { index = k .index; version = w }) → ⊥
-  pub none-after : (w : ℕ) → w ≢ k .version → Live m′ (record { index = k .index; version = w }) → ⊥
+record OneSlot (m m′ : Machine) (k : Key) (out : List ℕ) : Type 0 where
+  versions : (j : ℕ) → j ≢ k .index → m′ .versions j ≡ m .versions j
+  rows : (j : ℕ) → j ≢ k .index → m′ .rows j ≡ m .rows j
+  there : (j : ℕ) → j ≢ k .index → j < m .used → j < m′ .used
+  back : (j : ℕ) → j ≢ k .index → j < m′ .used → j < m .used
+  now : lookOn m′ k ≡ out
+  none-before : (w : ℕ) → w ≢ k .version → Live m (record { index = k .index; version = w }) → ⊥
+  none-after : (w : ℕ) → w ≢ k .version → Live m′ (record { index = k .index; version = w }) → ⊥
 
 one-slot : (m m′ : Machine) (k : Key) (out : List ℕ) → OneSlot m m′ k out → (x : Key) → pick (sameKey k x) out (lookOn m x) ≡ lookOn m′ x
 one-slot m m′ k out s x = go (ℕ-discrete (k .index) (x .index)) (ℕ-discrete (k .version) (x .version))
@@ -58,14 +54,6 @@ one-slot m m′ k out s x = go (ℕ-discrete (k .index) (x .index)) (ℕ-discret
         let j : x .index ≢ k .index = λ z. i (sym z) in
         simp (ne-eqb _ _ i)
         (look-alike m m′ x (s .versions (x .index) j) (s .rows (x .index) j) (s .there (x .index) j) (s .back (x .index) j))
-
--- a function changed at a slot, there and elsewhere
-module _ {A : Type 0} (f g : ℕ → A) (i : ℕ) (x : A) (e : g ≡ put f i x) where
-  pub changed-here : g i ≡ x
-  changed-here = ap (λ (h : ℕ → A). h i) e ∙ put-same f i x i refl
-
-  pub changed-not : (j : ℕ) → j ≢ i → g j ≡ f j
-  changed-not j n = ap (λ (h : ℕ → A). h j) e ∙ put-other f i x j n
 
 hands : (m : Machine) (k : Key) (row : List ℕ) (m′ : Machine) → Hands m k row m′ → OneSlot m m′ k row
 hands m k row m′ h =

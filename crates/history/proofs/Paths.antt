@@ -1,11 +1,13 @@
 -- What an event does to the machine, whatever call it happens in; and events one after another. Assumes nothing.
-use mathlib.Core.Path.{_≡_, refl, sym, subst}
+use mathlib.Core.Path.{_≡_, refl, sym, ap, _∙_, subst}
+use mathlib.Core.Logic.{_≢_}
 use mathlib.Core.List.{List, [], _∷_, _++_}
 use Prim.Native.Nat.{ℕ, _+_, _≤_, _<_, _%_, max}
 use Rattle.rules.specs.Words.{zeroRow, withBit, rise}
 use Rattle.rules.specs.declared.Key.{Key}
 use Rattle.runs.specs.Points.{put}
 use Rattle.runs.specs.Machine.{Machine, liveOf}
+use Rattle.runs.proofs.Points.{put-same, put-other}
 use Rattle.history.specs.Events.{Event, handed, removed, wrote}
 use Rattle.history.proofs.Live.{Live}
 
@@ -54,3 +56,11 @@ join m (e ∷ es) x fs y p q = (p .0, p .1, join (p .0) es x fs y (p .2) q)
 pub parted : (m : Machine) (es fs : List Event) (y : Machine) → Path m (es ++ fs) y → (x : Machine) × Path m es x × Path x fs y
 parted m [] fs y p = (m, refl, p)
 parted m (e ∷ es) fs y p = let q = parted (p .0) es fs y (p .2) in (q .0, (p .0, p .1, q .1), q .2)
+
+-- a function changed at a slot, there and elsewhere
+module _ {A : Type 0} (f g : ℕ → A) (i : ℕ) (x : A) (e : g ≡ put f i x) where
+  pub changed-here : g i ≡ x
+  changed-here = ap (λ (h : ℕ → A). h i) e ∙ put-same f i x i refl
+
+  pub changed-not : (j : ℕ) → j ≢ i → g j ≡ f j
+  changed-not j n = ap (λ (h : ℕ → A). h j) e ∙ put-other f i x j n

@@ -62,14 +62,14 @@ module _ (row : Row) (lent : ℕ) where
   unfolding insertOn insertNumberOn sideNumber _▸_ grownBy backWithin
   first-filled two = simp (eq-eqb _ _ (row .eight), ne-eqb 1 lent (λ e. omega arith))
 
-  filled-again : (v : ℕ) → v % 2 ≡ 0 → insertOn (alone v zeroRow) (row .words) ≡ filled (withBit v)
+  fills-again : (v : ℕ) → v % 2 ≡ 0 → insertOn (alone v zeroRow) (row .words) ≡ filled (withBit v)
   unfolding insertOn insertNumberOn sideNumber _▸_ filledBy backWithin put
-  filled-again v e = simp (eq-eqb _ _ (row .eight), eq-eqb _ _ e, put-again)
+  fills-again v e = simp (eq-eqb _ _ (row .eight), eq-eqb _ _ e, put-again)
 
-  emptied-again : (v : ℕ) → v % 2 ≡ 1 →
+  empties-again : (v : ℕ) → v % 2 ≡ 1 →
       removeOn (alone v (row .words)) (key 1 v) ≡ record { answer = keyed (key 1 v); row = row .words; machine = alone (rise v) zeroRow }
   unfolding removeOn freedOn frontsAfter put
-  emptied-again v o = simp (live-passes (alone v (row .words)) (key 1 v) (live v o), put-again)
+  empties-again v o = simp (live-passes (alone v (row .words)) (key 1 v) (live v o), put-again)
 
   -- calls that see slot 1 emptied n times, and leave the row there under the version v
   record Leaves (t : Table) (cs : List Call) (n v : ℕ) : Type 0 where
@@ -82,8 +82,8 @@ module _ (row : Row) (lent : ℕ) where
   rounds-leave zero v o t s = record { within = tt; count = refl; stands = s }
   rounds-leave (suc n) v o t s =
       let u = next t (remove (key 1 v)) in
-      let d = subst (Does (outcome t (remove (key 1 v)))) (emptied-again v o) (remove-does _ _ _ _ s (key 1 v)) in
-      let e = subst (Does (outcome u (insert (row .words)))) (filled-again (rise v) (rise-even v o)) (insert-does _ _ _ _ (d .shows) (row .words)) in
+      let d = subst (Does (outcome t (remove (key 1 v)))) (empties-again v o) (remove-does _ _ _ _ s (key 1 v)) in
+      let e = subst (Does (outcome u (insert (row .words)))) (fills-again (rise v) (rise-even v o)) (insert-does _ _ _ _ (d .shows) (row .words)) in
       let r = rounds-leave n (refilled v) (omega arith) (next u (insert (row .words))) (e .shows) in
       record {
         within = (tt, (tt, r .within));

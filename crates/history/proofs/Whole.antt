@@ -1,48 +1,23 @@
 -- Calls one after another: the events of all of them, what the bystander has, and the slots in use. Assumes nothing.
 use mathlib.Core.Path.{_≡_, refl, sym, ap, _∙_, fun-ext}
 use mathlib.Core.List.{List, [], _∷_, _++_, append-assoc}
-use Prim.Native.Nat.{ℕ, zero, suc, _+_, _≤_, _<_, _%_, max}
-use native.Mathlib.Decide.{ℕ-discrete}
+use Prim.Native.Nat.{suc, _+_, _≤_, max}
 use native.Mathlib.Omega.{arith}
-use borrow.Author.Tests.{eq-eqb, ne-eqb, lt-ltb, le-ltb}
-use Rattle.rules.specs.Choice.{one-if}
 use Rattle.rules.specs.Runs.{oddCount}
 use Rattle.runs.specs.Machine.{Machine, liveOf}
 use Rattle.runs.specs.Steps.{lookOn}
-use Rattle.runs.proofs.Counts.{count-more, count-none-yet, odd-more, odd-none-yet}
 use Rattle.runs.proofs.Drained.{headed}
 use Rattle.runs.proofs.Accessed.{look-is}
 use Rattle.history.specs.Calls.{Call}
 use Rattle.history.specs.Histories.{Table, looked, next, after, answer, answers, Within}
 use Rattle.history.specs.Bystander.{Book, reckoned}
 use Rattle.history.specs.Events.{Event, events, happening}
-use Rattle.history.specs.Slots.{liveRows, spare, vacantBelow, slots, most}
+use Rattle.history.specs.Slots.{liveRows, vacantBelow, slots, most}
 use Rattle.history.proofs.Paths.{Path, join}
-use Rattle.history.proofs.Counted.{some-vacant}
+use Rattle.history.proofs.Counted.{some-vacant, vacant-counted}
 use Rattle.history.proofs.Reduced.{Stands, reduces}
 
--- the counts of a table that is a machine
-vacant-counted : (v : ℕ → ℕ) (n : ℕ) → 0 < n → v 0 % 2 ≡ 0 → oddCount v n + vacantBelow v n + 1 ≡ n
-vacant-counted v zero p z = absurd (omega arith)
-vacant-counted v (suc n) p z = go (ℕ-discrete n 0) (ℕ-discrete (v n % 2) 0) (vacant-counted v n)
-  where
-    more : vacantBelow v (suc n) ≡ vacantBelow v n + one-if (spare v n)
-    more = count-more (spare v) n
-
-    none : n ≡ 0 → vacantBelow v n ≡ 0
-    none e = ap (vacantBelow v) e ∙ count-none-yet (spare v)
-
-    go : Dec (n ≡ 0) → Dec (v n % 2 ≡ 0) → (0 < n → v 0 % 2 ≡ 0 → oddCount v n + vacantBelow v n + 1 ≡ n) → oddCount v (suc n) + vacantBelow v (suc n) + 1 ≡ suc n
-    go (yes e) d r =
-        let bit : one-if (spare v n) ≡ 0 = simp (le-ltb 0 n (omega arith)) in
-        omega (arith, odd-more v n, more, bit, none e, ap (oddCount v) e, odd-none-yet v, ap (λ (x : ℕ). v x % 2) e)
-    go (no f) (yes d) r =
-        let bit : one-if (spare v n) ≡ 1 = simp (lt-ltb 0 n (omega arith), eq-eqb (v n % 2) 0 d) in
-        omega (arith, odd-more v n, more, bit, r (omega arith) z)
-    go (no f) (no d) r =
-        let bit : one-if (spare v n) ≡ 0 = simp (lt-ltb 0 n (omega arith), ne-eqb (v n % 2) 0 d) in
-        omega (arith, odd-more v n, more, bit, r (omega arith) z)
-
+-- the counts of a table that is a machine, and what it answers
 module _ (t : Table) (m : Machine) (s : Stands t m) where
   pub live-rows : liveRows t ≡ liveOf m
   live-rows = ap liveOf (s .same)
