@@ -1,5 +1,5 @@
 -- Why the theory of runs holds. Each file stands on those above it. The theorems that others cite, and where they are:
---   each call is the machine's step and leaves a sound table; its numbers, never 2   Calls
+--   each call is the machine's step and leaves a sound table; its numbers         Calls
 --   start and rebuild leave a sound table                                         Begun
 --   the chain of a sound table is unique                                          Sound
 --   the check accepts exactly the sound tables                                    Checked
