@@ -1,4 +1,4 @@
--- Row access: the number of a key, the part of the rows that a look hands back, and replace.
+-- Row access: the number of a key, the part of the rows that a look hands back, the row by value, and replace.
 use Prim.Native.Nat.{ℕ, _+_, _*_}
 use mathlib.Core.List.{List, []}
 use mathlib.Core.Path.{_≡_}
@@ -7,7 +7,7 @@ use lib.ListN.{length}
 use lib.Dec.{eqb}
 use Rattle.rules.specs.Choice.{pick}
 use Rattle.rules.specs.Words.{rowWords, rowAt, setRow}
-use Rattle.rules.specs.Values.{Outcome, plain, done, unless}
+use Rattle.rules.specs.Values.{Outcome, plain, keyed, done, unless}
 use Rattle.rules.specs.Refusals.{entryNumber, sideEntryNumber, liveNumber}
 use Rattle.rules.specs.declared.Header.{Header}
 use Rattle.rules.specs.declared.Key.{Key}
@@ -35,6 +35,12 @@ startsAt part whole w = part .ptr ≡ (whole .ptr .0, w * wordBytes + whole .ptr
 pub record RowPart (l : List ℕ) (rows : RefT (List ℕ)) (hd : Header) (key : Key) (part : RefT (List ℕ)) : Type 0 where
   pub words : part .now ≡ lookRule l (rows .now) hd key
   pub place : startsAt part rows (lookStart l (rows .now) hd key)
+
+-- a look by value, for who cannot be handed a part: the key and its row
+unfoldable pub lookRowRule : List ℕ → List ℕ → Header → Key → Outcome
+lookRowRule l r hd key =
+    unless l r hd (keyNumber l r hd key)
+    (record { answer = keyed key; row = rowAt r (hd .used) (key .index); header = hd; links = l; rows = r })
 
 -- replace copies eight words in from a side buffer. hop.rs has a write through get_mut, 734-742
 unfoldable pub replaceNumber : List ℕ → List ℕ → Header → Key → List ℕ → ℕ

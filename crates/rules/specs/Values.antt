@@ -19,6 +19,7 @@ use Rattle.rules.specs.declared.Drained.{Drained}
 use Rattle.rules.specs.declared.Cleared.{Cleared}
 use Rattle.rules.specs.declared.Retained.{Retained}
 use Rattle.rules.specs.declared.Roomed.{Roomed}
+use Rattle.rules.specs.declared.steps.Shown.{Shown}
 
 -- a call gives what was asked for, is done, or is refused: so a refusal is apart from all else, even at number 0
 pub data Kind : Type 0 where
@@ -104,6 +105,9 @@ inserted x l r = plain (ofKey (x .answer)) (x .header) l r
 
 abbrev pub removed : Removed → List ℕ → List ℕ → Outcome
 removed x l r = record { answer = ofKey (x .answer); row = x .row; header = x .header; links = l; rows = r }
+
+abbrev pub shown : Shown → List ℕ → List ℕ → Outcome
+shown x l r = record { answer = ofKey (x .answer); row = x .row; header = x .header; links = l; rows = r }
 
 abbrev pub hopped : Hopped → List ℕ → List ℕ → Outcome
 hopped x l r = plain (ofHop (x .answer)) (x .header) l r

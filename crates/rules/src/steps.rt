@@ -1,4 +1,7 @@
-// What the functions of one call hand to each other, by value; no user meets it.
+// What functions hand to each other, by value; no user of the map meets it.
+use crate::Header;
+use crate::KeyAnswer;
+use crate::Row;
 
 // What insert reads before it writes: h = next(0), b = other_end(h), n = next(h).
 pub struct InsertLinks {
@@ -13,4 +16,11 @@ pub struct Beside {
     pub right: u32,
     pub before: bool,
     pub after: bool,
+}
+
+// What a look by value hands back: the row of a live key, zero on refusal.
+pub struct Shown {
+    pub answer: KeyAnswer,
+    pub row: Row,
+    pub header: Header,
 }
