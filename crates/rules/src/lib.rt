@@ -1,4 +1,5 @@
 // The types of the calls, by value: what goes in and what comes back. The rules of the calls are in specs/.
+// Header and key have C's layout, since the answers of the C surface hold them.
 pub mod steps;
 
 // The most slots that may be lent; the link words of a slot; the words of its row.
@@ -28,11 +29,13 @@ pub const ZERO_OCCUPIED: u32 = 8;
 pub const BROKEN_STREAM: u32 = 9;
 
 // Slots in use, slot 0 included, and rows live.
+#[repr(C)]
 pub struct Header {
     pub used: u32,
     pub live: u32,
 }
 
+#[repr(C)]
 pub struct Key {
     pub index: u32,
     pub version: u32,
