@@ -1,0 +1,4 @@
+-- What the contracts of `wire` cite. Assumes nothing.
+pub mod Commands
+pub mod Words
+pub mod Replies
