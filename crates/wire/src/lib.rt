@@ -4,7 +4,6 @@ pub mod replies;
 pub mod words;
 
 use rules::Key;
-use rules::Row;
 
 // What a command's first byte asks for.
 pub enum Command {

@@ -1,9 +1,9 @@
 // The replies, written to the output from a byte on. Each is written whole or not at all.
 ghost use mathlib.Core.Path.{_≡_};
-ghost use Prim.Native.Nat.{_+_, _≤_, _%_};
-ghost use mathlib.Core.List.{[], _∷_};
+ghost use Prim.Native.Nat.{_+_, _≤_};
 ghost use lib.ListN.{length};
 ghost use lib.Seq.{sets};
+ghost use Rattle.rules.specs.Words.{rowWords};
 ghost use Rattle.wire.specs.Words.{bytesOf, wordsBytes, keyBytes};
 ghost use Rattle.wire.specs.Replies.{keyReply, rowReply, doneReply, refusedReply, sayingBytes, fits, replied, repliedTo};
 use crate::LONGEST;
@@ -42,8 +42,8 @@ fn put_key(out: &mut [u8], at: usize, key: Key)
 }
 
 // The words of a row, one after the other.
-fn put_row(out: &mut [u8], at: usize, row: &Row)
-    requires { ⌜ at + 32 ≤ length (now out) ⌝ }
+fn put_row(out: &mut [u8], at: usize, row: &[u32])
+    requires { ⌜ (at + 32 ≤ length (now out)) × (length (now row) ≡ rowWords) ⌝ }
     ensures { λ _. ⌜ now (out .exit) ≡ sets (now (out .entry)) at (wordsBytes (now (row .entry))) ⌝ }
 {
     let mut k = 0;
@@ -63,8 +63,8 @@ fn put_key_reply(out: &mut [u8], at: usize, key: Key)
 }
 
 // 130, the key and the row.
-fn put_row_reply(out: &mut [u8], at: usize, key: Key, row: &Row)
-    requires { ⌜ at + 41 ≤ length (now out) ⌝ }
+fn put_row_reply(out: &mut [u8], at: usize, key: Key, row: &[u32])
+    requires { ⌜ (at + 41 ≤ length (now out)) × (length (now row) ≡ rowWords) ⌝ }
     ensures { λ _. ⌜ now (out .exit) ≡ sets (now (out .entry)) at (rowReply key (now (row .entry))) ⌝ }
 {
     out[at] = 130;

@@ -1,12 +1,9 @@
 // Words as bytes, low byte first: read out of a body, written to the output.
 ghost use mathlib.Core.Path.{_≡_};
 ghost use Prim.Native.Nat.{_+_, _≤_, _<_};
-ghost use lib.ListN.{length};
-ghost use lib.Seq.{sets};
-ghost use Rattle.wire.specs.Words.{bytesOf, wordsBytes, keyBytes, wordAt, keyIn, rowIn};
+ghost use Rattle.wire.specs.Words.{wordAt, keyIn, rowIn};
 use crate::Body;
 use rules::Key;
-use rules::ROW_WORDS;
 use rules::Row;
 
 fn wide(x: u8) -> u32
