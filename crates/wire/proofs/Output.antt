@@ -20,20 +20,13 @@ pub fits-room : (room at : ℕ) → fits room at ≡ true → at + longest ≤ r
 unfolding fits
 fits-room room at h = leb-true (at + longest) room h
 
--- what is written, and where it ends, where any reply fits and where none does
+-- a reply where any fits: it is written, and ends as many bytes on as it has; where none fits the output stays
 module _ (out : List ℕ) (at : ℕ) (reply : List ℕ) where
-  pub replied-where : fits (length out) at ≡ true → replied out at reply ≡ sets out at reply
-  unfolding replied
-  replied-where h = simp h
+  pub said : (to : ℕ) (written : List ℕ) → fits (length out) at ≡ true → to ≡ at + length reply → written ≡ sets out at reply →
+      (to ≡ repliedTo out at reply) × (written ≡ replied out at reply)
+  unfolding replied repliedTo
+  said to written h t w = simp h (t, w)
 
-  pub replied-to-where : fits (length out) at ≡ true → repliedTo out at reply ≡ at + length reply
-  unfolding repliedTo
-  replied-to-where h = simp h
-
-  pub not-replied : fits (length out) at ≡ false → replied out at reply ≡ out
-  unfolding replied
-  not-replied h = simp h
-
-  pub not-replied-to : fits (length out) at ≡ false → repliedTo out at reply ≡ at
-  unfolding repliedTo
-  not-replied-to h = simp h
+  pub not-said : fits (length out) at ≡ false → (at ≡ repliedTo out at reply) × (out ≡ replied out at reply)
+  unfolding replied repliedTo
+  not-said h = simp h (refl, refl)

@@ -21,7 +21,12 @@ same-length c = search needs
 returns : tie.Need-returns
 unfolding keyBytes
 returns c =
-    rw (c .before .before .put-word2 .ensures, c .before .before .before .before .before .before .put-word .ensures, sets-append, length-bytes)
+    rw (
+      c .before .before .put-word2 .ensures,
+      c .before .before .before .before .before .before .put-word .ensures,
+      sets-append,
+      length-bytes,
+    )
 
 pub put-key-spec : {M : Type 1} → statement M
 put-key-spec = tie.close (tie.spec put-word-requires add-put-word put-word-requires-2 same-length returns)

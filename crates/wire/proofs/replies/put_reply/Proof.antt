@@ -1,18 +1,15 @@
 -- `wire::replies::put_reply` meets its contract. Assumes nothing.
 use mathlib.Core.Path.{_≡_, refl, sym, _∙_}
 use mathlib.Core.Bool.{true}
-use mathlib.Core.List.{List}
-use Prim.Native.Nat.{ℕ, _+_, _≤_}
+use Prim.Native.Nat.{_+_, _≤_}
 use denote.Ref.{now}
 use native.Mathlib.Omega.{arith}
 use lib.ListN.{length}
-use lib.Seq.{sets}
 use borrow.Author.Needs.{needs}
 use borrow.Author.Tests.{not-true, not-false}
-use Rattle.wire.specs.declared.Saying.{Saying}
-use Rattle.wire.specs.Replies.{fits, longest, replied, repliedTo, sayingBytes}
+use Rattle.wire.specs.Replies.{fits, longest, sayingBytes}
 use Rattle.wire.proofs.Lengths.{silent-length, with-key-length, with-row-length, done-length, refused-length}
-use Rattle.wire.proofs.Output.{fits-room, replied-where, replied-to-where, not-replied, not-replied-to}
+use Rattle.wire.proofs.Output.{fits-room, said, not-said}
 use Rattle.wire.proofs.replies.put_reply.Statement.{statement}
 use Rattle.wire.proofs.replies.put_reply.Tie as tie
 
@@ -23,19 +20,6 @@ fits-here c = sym (c .before .fits2 .ensures) ∙ not-false (c .before .fits2 .r
 room : (c : tie.Else1) → c .before .before .before .args .at + longest ≤ length (now (c .before .before .before .args .out))
 room c = fits-room (length (now (c .before .before .before .args .out))) (c .before .before .before .args .at) (fits-here c)
 
--- and what is said is written, up to where it ends
-said : (c : tie.Else1) (s : Saying) (to : ℕ) (written : List ℕ) → c .before .before .before .args .saying ≡ s →
-    to ≡ c .before .before .before .args .at + length (sayingBytes s (now (c .before .before .before .args .row))) →
-    written ≡ sets (now (c .before .before .before .args .out)) (c .before .before .before .args .at) (sayingBytes s (now (c .before .before .before .args .row))) →
-    (to ≡ repliedTo (now (c .before .before .before .args .out)) (c .before .before .before .args .at)
-    (sayingBytes (c .before .before .before .args .saying) (now (c .before .before .before .args .row))))
-    × (written ≡ replied (now (c .before .before .before .args .out)) (c .before .before .before .args .at)
-    (sayingBytes (c .before .before .before .args .saying) (now (c .before .before .before .args .row))))
-said c s to written e t w =
-    let a = c .before .before .before .args in
-    let reply = sayingBytes s (now (a .row)) in
-    rw e (t ∙ sym (replied-to-where (now (a .out)) (a .at) reply (fits-here c)), w ∙ sym (replied-where (now (a .out)) (a .at) reply (fits-here c)))
-
 fits-requires : tie.Need-fits-requires
 fits-requires c κs = search needs
 
@@ -43,7 +27,7 @@ returns : tie.Need-returns
 returns c =
     let a = c .before .before .before .args in
     let none = sym (c .before .fits2 .ensures) ∙ not-true (c .before .fits2 .result) (c .if1 .taken) in
-    (sym (not-replied-to (now (a .out)) (a .at) _ none), sym (not-replied (now (a .out)) (a .at) _ none))
+    not-said (now (a .out)) (a .at) _ none
 
 enum-told : tie.Need-enum-told
 enum-told c = search needs
@@ -87,7 +71,8 @@ add-result-4 c = omega (arith, room (c .before .before .before .before .before .
 returns-2 : tie.Need-returns-2
 unfolding sayingBytes
 returns-2 c =
-    said (c .before .before) Saying.Silent _ _ (c .enum-told .given .1) (omega (arith, silent-length (now (c .before .before .before .before .before .args .row)))) refl
+    let length-here = silent-length (now (c .before .before .before .before .before .args .row)) in
+    rw (c .enum-told .given .1) (said _ _ _ _ _ (fits-here (c .before .before)) (omega arith) refl)
 
 same-length : tie.Need-same-length
 same-length c = search needs
@@ -95,8 +80,9 @@ same-length c = search needs
 returns-3 : tie.Need-returns-3
 unfolding sayingBytes
 returns-3 c =
-    let key = c .before .before .before .before .before .saying .given .0 .0 in
-    said (c .before .before .before .before .before .before .before) (Saying.WithKey key) _ _ (c .before .before .before .before .before .saying .given .1) (omega (arith, with-key-length key (now (c .before .before .before .before .before .before .before .before .before .before .args .row)))) (c .before .before .put-key-reply .ensures)
+    let told = c .before .before .before .before .before .saying .given in
+    let length-here = with-key-length (told .0 .0) (now (c .before .before .before .before .before .before .before .before .before .before .args .row)) in
+    rw (told .1) (said _ _ _ _ _ (fits-here (c .before .before .before .before .before .before .before)) (omega arith) (c .before .before .put-key-reply .ensures))
 
 same-length-2 : tie.Need-same-length-2
 same-length-2 c = search needs
@@ -104,8 +90,9 @@ same-length-2 c = search needs
 returns-4 : tie.Need-returns-4
 unfolding sayingBytes
 returns-4 c =
-    let key = c .before .before .before .before .before .before .saying2 .given .0 .0 in
-    said (c .before .before .before .before .before .before .before .before) (Saying.WithRow key) _ _ (c .before .before .before .before .before .before .saying2 .given .1) (omega (arith, with-row-length key (now (c .before .before .before .before .before .before .before .before .before .before .before .args .row)) (c .before .before .before .put-row-reply-arg2 .given .0))) (c .before .before .put-row-reply .ensures)
+    let told = c .before .before .before .before .before .before .saying2 .given in
+    let length-here = with-row-length (told .0 .0) (now (c .before .before .before .before .before .before .before .before .before .before .before .args .row)) (c .before .before .before .put-row-reply-arg2 .given .0) in
+    rw (told .1) (said _ _ _ _ _ (fits-here (c .before .before .before .before .before .before .before .before)) (omega arith) (c .before .before .put-row-reply .ensures))
 
 same-length-3 : tie.Need-same-length-3
 same-length-3 c = search needs
@@ -113,7 +100,8 @@ same-length-3 c = search needs
 returns-5 : tie.Need-returns-5
 unfolding sayingBytes
 returns-5 c =
-    said (c .before .before .before .before .before .before) Saying.Done _ _ (c .before .before .before .before .enum-told2 .given .1) (omega (arith, done-length (now (c .before .before .before .before .before .before .before .before .before .args .row)))) (c .before .before .put-done .ensures)
+    let length-here = done-length (now (c .before .before .before .before .before .before .before .before .before .args .row)) in
+    rw (c .before .before .before .before .enum-told2 .given .1) (said _ _ _ _ _ (fits-here (c .before .before .before .before .before .before)) (omega arith) (c .before .before .put-done .ensures))
 
 same-length-4 : tie.Need-same-length-4
 same-length-4 c = search needs
@@ -121,8 +109,9 @@ same-length-4 c = search needs
 returns-6 : tie.Need-returns-6
 unfolding sayingBytes
 returns-6 c =
-    let number = c .before .before .before .before .before .saying3 .given .0 .0 in
-    said (c .before .before .before .before .before .before .before) (Saying.Refused number) _ _ (c .before .before .before .before .before .saying3 .given .1) (omega (arith, refused-length number (now (c .before .before .before .before .before .before .before .before .before .before .args .row)))) (c .before .before .put-refused .ensures)
+    let told = c .before .before .before .before .before .saying3 .given in
+    let length-here = refused-length (told .0 .0) (now (c .before .before .before .before .before .before .before .before .before .before .args .row)) in
+    rw (told .1) (said _ _ _ _ _ (fits-here (c .before .before .before .before .before .before .before)) (omega arith) (c .before .before .put-refused .ensures))
 
 pub put-reply-spec : {M : Type 1} → statement M
 put-reply-spec =

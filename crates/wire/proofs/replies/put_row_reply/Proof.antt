@@ -36,7 +36,14 @@ returns c =
     let at = c .before .before .before .before .before .before .before .before .before .before .args .at in
     let e1 : at + 1 ≡ suc at = omega arith in
     let e2 : suc at + 8 ≡ at + 9 = omega arith in
-    rw (c .before .before .put-row .ensures, c .before .before .before .before .before .before .put-key .ensures, sets-append, length-key-bytes, e1, e2)
+    rw (
+      c .before .before .put-row .ensures,
+      c .before .before .before .before .before .before .put-key .ensures,
+      sets-append,
+      length-key-bytes,
+      e1,
+      e2,
+    )
 
 pub put-row-reply-spec : {M : Type 1} → statement M
 put-row-reply-spec =

@@ -30,7 +30,17 @@ word-requires-8 c κs = search needs
 
 returns : tie.Need-returns
 unfolding rowIn
-returns c = rw (c .word8 .ensures, c .before .word7 .ensures, c .before .before .word6 .ensures, c .before .before .before .word5 .ensures, c .before .before .before .before .word4 .ensures, c .before .before .before .before .before .word3 .ensures, c .before .before .before .before .before .before .word2 .ensures, c .before .before .before .before .before .before .before .word .ensures)
+returns c =
+    rw (
+      c .word8 .ensures,
+      c .before .word7 .ensures,
+      c .before .before .word6 .ensures,
+      c .before .before .before .word5 .ensures,
+      c .before .before .before .before .word4 .ensures,
+      c .before .before .before .before .before .word3 .ensures,
+      c .before .before .before .before .before .before .word2 .ensures,
+      c .before .before .before .before .before .before .before .word .ensures,
+    )
 
 pub row-in-spec : {M : Type 1} → statement M
 row-in-spec =

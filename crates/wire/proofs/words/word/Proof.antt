@@ -58,7 +58,12 @@ add-result-3 c = search needs
 returns : tie.Need-returns
 unfolding wordAt
 returns c =
-    rw (c .wide4 .ensures .0, c .before .before .wide3 .ensures .0, c .before .before .before .before .wide2 .ensures .0, c .before .before .before .before .before .before .wide .ensures .0)
+    rw (
+      c .wide4 .ensures .0,
+      c .before .before .wide3 .ensures .0,
+      c .before .before .before .before .wide2 .ensures .0,
+      c .before .before .before .before .before .before .wide .ensures .0,
+    )
 
 pub word-spec : {M : Type 1} → statement M
 word-spec =
