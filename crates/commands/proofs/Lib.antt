@@ -1,0 +1,2 @@
+-- What the proofs of commands share.
+mod Spoken

@@ -1,0 +1,2 @@
+-- What the contracts of `commands` cite. Assumes nothing.
+pub mod Turns
