@@ -3,7 +3,7 @@ use mathlib.Core.Path.{_≡_}
 use denote.Ref.{now}
 use Prim.Native.Nat.{suc, _+_}
 use native.Mathlib.Omega.{arith}
-use lib.ListN.{length-set}
+use lib.ListN.{length, length-set}
 use lib.Seq.{length-sets}
 use Rattle.wire.proofs.Lengths.{length-key-bytes}
 use Rattle.wire.proofs.Sets.{sets-append}
@@ -28,8 +28,10 @@ put-row-requires c κs = (rw (c .before .before .before .put-key .ensures) (simp
 
 same-length : tie.Need-same-length
 same-length c =
-    let a = c .before .before .before .before .before .before .before .before .before .before .args in
-    omega (arith, length-set (now (a .out)) (a .at) 130)
+    let key = c .before .before .before .before .before .before .put-key in
+    let out = now (c .before .before .before .before .before .before .before .before .before .before .args .out) in
+    let kept : length (key .last .0) ≡ length out = rw (key .ensures) (simp (length-sets, length-set)) in
+    omega arith
 
 returns : tie.Need-returns
 returns c =
