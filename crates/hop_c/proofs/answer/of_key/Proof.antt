@@ -1,0 +1,33 @@
+-- `hop_c::answer::of_key` meets its contract. Assumes nothing.
+use borrow.Author.Needs.{needs}
+use Rattle.hop_c.proofs.answer.of_key.Statement.{statement}
+use Rattle.hop_c.proofs.answer.of_key.Tie as tie
+
+enum-known-answer : tie.Need-enum-known-answer
+enum-known-answer c = search needs
+
+visited-requires : tie.Need-visited-requires
+visited-requires c κs = search needs
+
+enum-known-answer-2 : tie.Need-enum-known-answer-2
+enum-known-answer-2 c = search needs
+
+refused-requires : tie.Need-refused-requires
+refused-requires c κs = search needs
+
+returns : tie.Need-returns
+returns c = rw (c .before .before .answer .given .1) (c .visited .ensures)
+
+returns-2 : tie.Need-returns-2
+returns-2 c = rw (c .before .before .answer2 .given .1) (c .refused .ensures)
+
+pub of-key-spec : {M : Type 1} → statement M
+of-key-spec =
+    tie.close
+    (tie.spec
+    enum-known-answer
+    visited-requires
+    enum-known-answer-2
+    refused-requires
+    returns
+    returns-2)

@@ -1,0 +1,13 @@
+-- `hop_c::answer::refused` meets its contract. Assumes nothing.
+use borrow.Author.Needs.{needs}
+use Rattle.hop_c.proofs.answer.refused.Statement.{statement}
+use Rattle.hop_c.proofs.answer.refused.Tie as tie
+
+done-requires : tie.Need-done-requires
+done-requires c κs = search needs
+
+returns : tie.Need-returns
+returns c = rw (c .done .ensures)
+
+pub refused-spec : {M : Type 1} → statement M
+refused-spec = tie.close (tie.spec done-requires returns)

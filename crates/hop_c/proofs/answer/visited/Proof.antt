@@ -1,0 +1,13 @@
+-- `hop_c::answer::visited` meets its contract. Assumes nothing.
+use borrow.Author.Needs.{needs}
+use Rattle.hop_c.proofs.answer.visited.Statement.{statement}
+use Rattle.hop_c.proofs.answer.visited.Tie as tie
+
+done-requires : tie.Need-done-requires
+done-requires c κs = search needs
+
+returns : tie.Need-returns
+returns c = rw (c .done .ensures)
+
+pub visited-spec : {M : Type 1} → statement M
+visited-spec = tie.close (tie.spec done-requires returns)
