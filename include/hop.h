@@ -117,7 +117,8 @@ struct hop_answer hop_insert(uint32_t *links, size_t link_words, uint32_t *rows,
 struct hop_answer hop_remove(uint32_t *links, size_t link_words, uint32_t *rows, size_t row_words, uint32_t used, uint32_t live,
                              uint32_t index, uint32_t version);
 
-/* The hop step, for which no second hop is in the name: the next live slot from the cursor on. A walk starts at 0 and goes on from each answer's cursor.
+/* The hop step, under the name hop_step and not hop_hop_step: the next live slot from the cursor on. A walk starts at 0 and goes on from each
+ * answer's cursor.
  * Answers the key and the cursor to go on from; done at the end. Refused: HOP_SHAPE, HOP_DAMAGED, HOP_STALE_CURSOR. */
 struct hop_answer hop_step(const uint32_t *links, size_t link_words, const uint32_t *rows, size_t row_words, uint32_t used, uint32_t live,
                            uint32_t cursor);
@@ -135,8 +136,8 @@ struct hop_answer hop_clear(uint32_t *links, size_t link_words, uint32_t *rows, 
 struct hop_answer hop_retain(uint32_t *links, size_t link_words, uint32_t *rows, size_t row_words, uint32_t used, uint32_t live,
                              const uint8_t *keep, size_t keep_bytes);
 
-/* Versions and rows that stand in place become a map again: one presence byte for each slot that is to be in use, 1 where it is occupied. The header given
- * is not looked at: any will do.
+/* Versions and rows that stand in place become a map again: one presence byte for each slot that is to be in use, 1 where it is occupied. The
+ * header given is not looked at: any will do.
  * Done. Refused: HOP_SHAPE (the lengths alone: no byte, or more than slots are lent), HOP_WRONG_PRESENCE, HOP_ZERO_OCCUPIED. */
 struct hop_answer hop_rebuild(uint32_t *links, size_t link_words, uint32_t *rows, size_t row_words, uint32_t used, uint32_t live,
                               const uint8_t *presence, size_t presence_bytes);
