@@ -1,0 +1,57 @@
+-- The course of the stream turn by turn: a step of a walk, a byte heard, and nothing after the end. Assumes nothing.
+use Prim.Native.Nat.{ℕ}
+use mathlib.Core.List.{List, [], _∷_, _++_, append-assoc}
+use mathlib.Core.Bool.{false}
+use mathlib.Core.Path.{_≡_, refl, sym, ap, _∙_}
+use Rattle.wire.specs.declared.Saying.{Saying}
+use Rattle.wire.specs.Replies.{sayingBytes}
+use Rattle.commands.specs.Turns.{Run, calm, walkTurn}
+use Rattle.commands.specs.declared.Phase.{Phase}
+use Rattle.stream.specs.Heard.{walksIn, heardIn, heard}
+use Rattle.stream.specs.Course.{Course, standing, replyOf, preceded, settled, course}
+use Rattle.stream.proofs.Walks.{settled-still, settled-step}
+
+-- replies made before replies
+pub before-before : (xs ys : List ℕ) (x : Course) → preceded xs (preceded ys x) ≡ preceded (xs ++ ys) x
+before-before xs ys x = ap (λ (zs : List ℕ). record { run = x .run; said = zs }) (sym (append-assoc xs ys (x .said)))
+
+-- all that follows a settled run, for a byte that comes
+abbrev onto : ℕ → List ℕ → Course → Course
+onto b bs x =
+    let t = heard (x .run) b in
+    preceded (x .said ++ replyOf t) (course (t .run) bs)
+
+onto-after : (xs : List ℕ) (b : ℕ) (bs : List ℕ) (x : Course) → onto b bs (preceded xs x) ≡ preceded xs (onto b bs x)
+onto-after xs b bs x =
+    let t = heard (x .run) b in
+    ap (λ (ys : List ℕ). preceded ys (course (t .run) bs)) (append-assoc xs (x .said) (replyOf t))
+    ∙ sym (before-before xs (x .said ++ replyOf t) (course (t .run) bs))
+
+-- in a walk its next step is replied to first
+pub walk-first : (s : Run) (c : ℕ) → s .stream .phase ≡ Phase.Walking c → (bs : List ℕ) →
+    course s bs ≡ preceded (replyOf (walkTurn s c)) (course (walkTurn s c .run) bs)
+walk-first s c e [] = settled-step s c e
+walk-first s c e (b ∷ bs) =
+    ap (onto b bs) (settled-step s c e) ∙ onto-after (replyOf (walkTurn s c)) b bs (settled (walkTurn s c .run))
+
+-- else the next byte is
+pub byte-first : (s : Run) → walksIn (s .stream .phase) ≡ false → (b : ℕ) (bs : List ℕ) →
+    course s (b ∷ bs) ≡ preceded (replyOf (heard s b)) (course (heard s b .run) bs)
+byte-first s h b bs = ap (onto b bs) (settled-still s h)
+
+-- after the end a byte changes nothing, and nothing is replied
+pub unheard : (s : Run) → s .stream .phase ≡ Phase.Ended → (b : ℕ) → heard s b ≡ calm s Phase.Ended Saying.Silent
+unfolding heard
+unheard s e b = ap (λ (p : Phase). heardIn p s b) e
+
+pub calm-same : (s : Run) (p : Phase) → s .stream .phase ≡ p → (x : Saying) → calm s p x .run ≡ s
+calm-same s p e x =
+    ap (λ (q : Phase). calm s q x .run) (sym e)
+
+pub ended-course : (s : Run) → s .stream .phase ≡ Phase.Ended → (bs : List ℕ) → course s bs ≡ standing s
+unfolding sayingBytes
+ended-course s e [] = settled-still s (ap walksIn e)
+ended-course s e (b ∷ bs) =
+    let silent = calm s Phase.Ended Saying.Silent in
+    byte-first s (ap walksIn e) b bs
+    ∙ rw (unheard s e b) (ended-course (silent .run) refl bs ∙ ap standing (calm-same s Phase.Ended e Saying.Silent))

@@ -1,0 +1,109 @@
+-- Demand 3, of the stream: a run that begins with a table which start has left, and any bytes at all. The calls that the bytes make (calls) are
+-- a history from the table at the beginning to the table after them, so all that history.proofs.Demand says of histories is said of the stream.
+-- And in such a history no feed is refused, as long as its output has room for a reply. Assumes nothing.
+use Prim.Native.Nat.{ℕ, _<_, _≤_, max}
+use mathlib.Core.List.{List, [], _∷_, _++_, append-nil}
+use mathlib.Core.Bool.{true, not}
+use mathlib.Core.Path.{_≡_, refl, sym, ap, _∙_, subst}
+use lib.ListN.{length}
+use borrow.Author.Tests.{eq-eqb, eqb-false, le-ltb}
+use Rattle.rules.specs.Values.{ends, done, refused, unless}
+use Rattle.rules.specs.Refusals.{notLive, lentNumber, shapeNumber}
+use Rattle.rules.specs.Sound.{Sound}
+use Rattle.rules.specs.Start.{startRule}
+use Rattle.rules.specs.declared.Header.{Header}
+use Rattle.rules.specs.declared.Key.{Key}
+use Rattle.rules.proofs.Refusals.{skipped}
+use Rattle.history.specs.Calls.{Call, ask, number, check, start}
+use Rattle.history.specs.Histories.{Table, left, answer, after, answers, looked, Begun}
+use Rattle.history.specs.Bystander.{reckoned}
+use Rattle.history.specs.Events.{Event, removed, events, seen}
+use Rattle.history.specs.Slots.{slots, most}
+use Rattle.history.specs.Versions.{round}
+use Rattle.history.specs.Refusals.{Numbers}
+use Rattle.history.proofs.Demand
+use Rattle.wire.specs.Replies.{longest}
+use Rattle.commands.specs.Turns.{Run, tableOf}
+use Rattle.stream.specs.Heard.{possible}
+use Rattle.stream.specs.Feeding.{feedNumber, feedRule}
+use Rattle.stream.specs.Course.{Course, course}
+use Rattle.stream.specs.Pieces.{Pieces, none, more}
+use Rattle.stream.specs.Calls.{calls}
+use Rattle.stream.proofs.Pieces.{pieces}
+use Rattle.stream.proofs.Possible.{feed-possible}
+use Rattle.stream.proofs.Histories.{calls-lead, calls-within, settled-table}
+
+-- the table that a start leaves, where it is not refused, is one that a history begins with
+pub start-begins : (l r : List ℕ) (hd : Header) → lentNumber (length l) (length r) ≡ 0 → Begun (left (startRule l r hd))
+unfolding startRule unless
+start-begins l r hd e =
+    let done-there : startRule l r hd .answer .kind ≡ ends = simp (eq-eqb (lentNumber (length l) (length r)) 0 e) in
+    record { by = start; links = l; rows = r; header = hd; unrefused = λ h. eqb-false 0 1 refl (cc); leaves = refl }
+
+module _ (s : Run) (b : Begun (tableOf s)) (bs : List ℕ) where
+  abbrev t : Table
+  t = tableOf s
+
+  abbrev cs : List Call
+  cs = calls s bs
+
+  abbrev now : Table
+  now = tableOf (course s bs .run)
+
+  -- what is so after the calls is so now
+  carried : (P : Table → Type 0) → P (after t cs) → P now
+  carried P p = subst P (sym (calls-lead s bs)) p
+
+  -- 1. live keys and rows
+  pub live-keys : (k : Key) → looked now k ≡ reckoned (looked t) cs (answers t cs) k
+  live-keys k = carried (λ (x : Table). looked x k ≡ reckoned (looked t) cs (answers t cs) k) (Demand.live-keys t b cs (calls-within s bs) k)
+
+  -- 2. the chain
+  pub sound : (shapeNumber (now .links) (now .rows) (now .header) ≡ 0) × Sound (now .links) (now .header)
+  sound =
+      carried (λ (x : Table). (shapeNumber (x .links) (x .rows) (x .header) ≡ 0) × Sound (x .links) (x .header))
+      (Demand.sound t b cs (calls-within s bs))
+
+  pub check-passes : answer now (ask check) ≡ done
+  check-passes = carried (λ (x : Table). answer x (ask check) ≡ done) (Demand.check-passes t b cs (calls-within s bs))
+
+  -- 3. slots
+  pub slots-law : slots now ≡ max (slots t) (most t cs)
+  slots-law = carried (λ (x : Table). slots x ≡ max (slots t) (most t cs)) (Demand.slots-law t b cs (calls-within s bs))
+
+  -- 4. dead keys
+  pub dead : (es fs : List Event) (k : Key) → events t cs ≡ es ++ removed k ∷ fs → seen (k .index) (removed k ∷ fs) < round →
+      answer now (ask (number k)) ≡ refused notLive
+  dead es fs k at few =
+      carried (λ (x : Table). answer x (ask (number k)) ≡ refused notLive) (Demand.dead t b cs (calls-within s bs) es fs k at few)
+
+  -- 5. refusals: of any call that comes next
+  pub refusals : (c : Call) → Numbers now c
+  refusals c = carried (λ (x : Table). Numbers x c) (Demand.refusals t b cs (calls-within s bs) c)
+
+-- pieces from a possible state lead to one
+pieces-possible : {s s′ : Run} {taken written : List ℕ} → Pieces s taken written s′ → possible (s .stream) ≡ true → possible (s′ .stream) ≡ true
+pieces-possible none h = h
+pieces-possible {s} (more input out e ps) h = pieces-possible ps (feed-possible s input out e)
+
+-- and to the table that the course of all their bytes leads to, in mid-walk too
+pieces-table : {s s′ : Run} {taken written : List ℕ} → Pieces s taken written s′ → tableOf (course s taken .run) ≡ tableOf s′
+pieces-table {s} {s′} {taken} ps =
+    ap (λ (xs : List ℕ). tableOf (course s xs .run)) (sym (append-nil taken))
+    ∙ ap (λ (x : Course). tableOf (x .run)) (pieces ps [])
+    ∙ settled-table s′
+
+-- a feed is taken where the table has its shape, the output has room and the state is possible
+feeds : (s : Run) (input out : List ℕ) → shapeNumber (s .links) (s .rows) (s .stream .header) ≡ 0 → longest ≤ length out →
+    possible (s .stream) ≡ true → feedRule s input out .number ≡ 0
+unfolding feedRule feedNumber
+feeds s input out shaped room h =
+    let n : feedNumber (s .links) (s .rows) (s .stream) (length out) ≡ 0 = skipped _ _ _ (ap not h) ∙ skipped _ _ _ (le-ltb _ _ room) ∙ shaped in
+    simp (eq-eqb _ 0 n)
+
+-- so no piece of a stream that has begun is refused, if its output has room for a reply
+pub never-refused : {s s′ : Run} {taken written : List ℕ} → Begun (tableOf s) → possible (s .stream) ≡ true → Pieces s taken written s′ →
+    (input out : List ℕ) → longest ≤ length out → feedRule s′ input out .number ≡ 0
+never-refused {s} {s′} {taken} b h ps input out room =
+    let shaped = subst (λ (x : Table). shapeNumber (x .links) (x .rows) (x .header) ≡ 0) (pieces-table ps) (sound s b taken .0) in
+    feeds s′ input out shaped room (pieces-possible ps h)

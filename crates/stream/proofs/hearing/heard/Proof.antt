@@ -1,0 +1,91 @@
+-- `stream::heard` meets its contract. Assumes nothing.
+use mathlib.Core.Path.{_∙_}
+use Rattle.stream.proofs.Phases.{heard-by}
+use borrow.Author.Needs.{needs}
+use Rattle.stream.proofs.hearing.heard.Statement.{statement}
+use Rattle.stream.proofs.hearing.heard.Tie as tie
+
+enum-told : tie.Need-enum-told
+enum-told c = search needs
+
+kind-heard-requires : tie.Need-kind-heard-requires
+kind-heard-requires c κs = search needs
+
+enum-known-phase : tie.Need-enum-known-phase
+enum-known-phase c = search needs
+
+body-heard-requires : tie.Need-body-heard-requires
+body-heard-requires c κs = search needs
+
+enum-known-phase-2 : tie.Need-enum-known-phase-2
+enum-known-phase-2 c = search needs
+
+calm-requires : tie.Need-calm-requires
+calm-requires c κs = search needs
+
+enum-told-2 : tie.Need-enum-told-2
+enum-told-2 c = search needs
+
+calm-requires-2 : tie.Need-calm-requires-2
+calm-requires-2 c κs = search needs
+
+same-length : tie.Need-same-length
+same-length c = search needs
+
+same-length-2 : tie.Need-same-length-2
+same-length-2 c = search needs
+
+returns : tie.Need-returns
+returns c = c .before .before .before .before .kind-heard .ensures ∙ heard-by _ _ _ (c .before .before .before .before .before .before .before .enum-told .given .1)
+
+same-length-3 : tie.Need-same-length-3
+same-length-3 c = search needs
+
+same-length-4 : tie.Need-same-length-4
+same-length-4 c = search needs
+
+returns-2 : tie.Need-returns-2
+returns-2 c = c .before .before .before .before .body-heard .ensures ∙ heard-by _ _ _ (c .before .before .before .before .before .before .before .before .phase .given .1)
+
+same-length-5 : tie.Need-same-length-5
+same-length-5 c = search needs
+
+same-length-6 : tie.Need-same-length-6
+same-length-6 c = search needs
+
+returns-3 : tie.Need-returns-3
+returns-3 c = c .calm .ensures ∙ heard-by _ _ _ (c .before .before .before .before .phase2 .given .1)
+
+same-length-7 : tie.Need-same-length-7
+same-length-7 c = search needs
+
+same-length-8 : tie.Need-same-length-8
+same-length-8 c = search needs
+
+returns-4 : tie.Need-returns-4
+returns-4 c = c .calm2 .ensures ∙ heard-by _ _ _ (c .before .before .before .enum-told2 .given .1)
+
+pub heard-spec : {M : Type 1} → statement M
+heard-spec =
+    tie.close
+    (tie.spec
+    enum-told
+    kind-heard-requires
+    enum-known-phase
+    body-heard-requires
+    enum-known-phase-2
+    calm-requires
+    enum-told-2
+    calm-requires-2
+    same-length
+    same-length-2
+    returns
+    same-length-3
+    same-length-4
+    returns-2
+    same-length-5
+    same-length-6
+    returns-3
+    same-length-7
+    same-length-8
+    returns-4)

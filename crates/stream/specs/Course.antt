@@ -1,0 +1,59 @@
+-- The rule of the whole stream: what is replied to bytes, and the run after them, with all the room there could be.
+use Prim.Native.Nat.{ℕ, suc}
+use mathlib.Core.List.{List, [], _∷_, _++_}
+use mathlib.Core.Bool.{Bool}
+use Rattle.wire.specs.Replies.{sayingBytes}
+use Rattle.commands.specs.Turns.{Run, Turned, walkTurn}
+use Rattle.commands.specs.declared.Phase.{Phase}
+use Rattle.stream.specs.Repeats.{while}
+use Rattle.stream.specs.Heard.{walksIn, heard, endedIn}
+
+-- the run so far, and all that was replied
+pub record Course : Type 0 where
+  pub run : Run
+  pub said : List ℕ
+
+-- a run of which nothing was replied yet
+abbrev pub standing : Run → Course
+standing s = record { run = s; said = [] }
+
+-- the reply of a turn, in bytes; a turn after what was replied; a course after replies made before it
+abbrev pub replyOf : Turned → List ℕ
+replyOf t = sayingBytes (t .saying) (t .row)
+
+abbrev pub follows : List ℕ → Turned → Course
+follows said t = record { run = t .run; said = said ++ replyOf t }
+
+abbrev pub preceded : List ℕ → Course → Course
+preceded said c = record { run = c .run; said = said ++ c .said }
+
+-- a walk is under way, and one step of it
+abbrev pub walks : Course → Bool
+walks c = walksIn (c .run .stream .phase)
+
+abbrev pub walkedIn : Phase → Course → Course
+walkedIn Phase.Between x = x
+walkedIn (Phase.Gathering k got) x = x
+walkedIn (Phase.Walking c) x = follows (x .said) (walkTurn (x .run) c)
+walkedIn Phase.Ended x = x
+
+unfoldable pub walked : Course → Course
+walked x = walkedIn (x .run .stream .phase) x
+
+-- a walk to its end: its cursor rises with each step, so no more steps are to come than slots are in use, and one
+unfoldable pub settled : Run → Course
+settled s = while walks walked (suc (s .stream .header .used)) (standing s)
+
+-- the bytes, one after the other, the walk of each to its end
+abbrev pub course : Run → List ℕ → Course
+course s [] = settled s
+course s (b ∷ bs) =
+    let x = settled s in
+    let t = heard (x .run) b in
+    preceded (x .said ++ replyOf t) (course (t .run) bs)
+
+-- the whole of the input: its bytes, and its end
+abbrev pub whole : Run → List ℕ → Course
+whole s bs =
+    let x = course s bs in
+    follows (x .said) (endedIn (x .run .stream .phase) (x .run))

@@ -1,0 +1,7 @@
+-- What the contracts of `stream` cite, and the rule of the whole stream. Read in this order. Assumes nothing.
+pub mod Repeats
+pub mod Heard
+pub mod Feeding
+pub mod Course
+pub mod Pieces
+pub mod Calls

@@ -1,0 +1,66 @@
+// The states of a stream: the one it starts in, and which ones some bytes could have left.
+ghost use mathlib.Core.Path.{_≡_};
+ghost use lib.ListN.{replicate};
+ghost use lib.Dec.{eqb, leb};
+ghost use Rattle.rules.specs.Choice.{both, either};
+ghost use Rattle.wire.specs.Commands.{bodyBytes};
+ghost use Rattle.commands.specs.declared.Phase.{Phase};
+ghost use Rattle.stream.specs.Heard.{possible};
+ghost use Rattle.stream.specs.Feeding.{feedNumber};
+use commands::Phase;
+use commands::Stream;
+use hop::Cursor;
+use hop::Header;
+use hop::SHAPE;
+use refusals::or_if;
+use refusals::shape_number;
+use wire::BODY_BYTES;
+use wire::LONGEST;
+use wire::commands::body_length;
+
+// Before the first byte, with the header that start or rebuild has handed back.
+pub fn opened(header: Header) -> Stream
+    ensures { λ r. ⌜ r ≡ record { header = header; phase = Phase.Between; body = replicate bodyBytes 0 } ⌝ }
+{
+    Stream {
+        header,
+        phase: Phase::Between,
+        body: [0u8; BODY_BYTES],
+    }
+}
+
+// A walk stands at its start or after a slot in use, and slot 0 is never shown.
+fn walk_possible(cursor: Cursor, used: u32) -> bool
+    ensures { λ r. ⌜ r ≡ either (eqb cursor 0) (both (leb 2 cursor) (leb cursor used)) ⌝ }
+{
+    if cursor == 0 {
+        return true;
+    }
+    if cursor < 2 {
+        return false;
+    }
+    cursor <= used
+}
+
+// Whether some bytes could have left this state.
+pub fn possible(s: Stream) -> bool
+    ensures { λ r. ⌜ r ≡ possible s ⌝ }
+{
+    let phase = s.phase;
+    let header = s.header;
+    match phase {
+        Phase::Between => true,
+        Phase::Gathering(command, got) => got < body_length(command),
+        Phase::Walking(cursor) => walk_possible(cursor, header.used),
+        Phase::Ended => true,
+    }
+}
+
+// The number of a piece, from its tables, its state and the room of its output.
+pub fn feed_number(links: &[u32], rows: &[u32], s: Stream, room: usize) -> u32
+    ensures { λ r. ⌜ r ≡ feedNumber (now (links .entry)) (now (rows .entry)) s room ⌝ }
+{
+    let n = shape_number(links, rows, s.header);
+    let n = or_if(n, room < LONGEST, SHAPE);
+    or_if(n, !possible(s), SHAPE)
+}
