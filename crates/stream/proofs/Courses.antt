@@ -7,7 +7,7 @@ use Rattle.wire.specs.declared.Saying.{Saying}
 use Rattle.wire.specs.Replies.{sayingBytes}
 use Rattle.commands.specs.Turns.{Run, calm, walkTurn}
 use Rattle.commands.specs.declared.Phase.{Phase}
-use Rattle.stream.specs.Heard.{walksIn, heardIn, heard}
+use Rattle.hearing.specs.Heard.{walksIn, heardIn, heard}
 use Rattle.stream.specs.Course.{Course, standing, replyOf, preceded, settled, course}
 use Rattle.stream.proofs.Walks.{settled-still, settled-step}
 

@@ -13,7 +13,7 @@ use Rattle.rules.proofs.Choice.{by-pick, both-true}
 use Rattle.wire.specs.Replies.{longest, fits, replied, repliedTo}
 use Rattle.commands.specs.Turns.{Run, Turned, walkTurn}
 use Rattle.commands.specs.declared.Phase.{Phase}
-use Rattle.stream.specs.Heard.{walksIn, heard}
+use Rattle.hearing.specs.Heard.{walksIn, heard}
 use Rattle.stream.specs.Feeding.{Feeding, phaseOf, following, heardOnce, walkedOnce, fedIn, fedOnce, waitsIn, waits, going, fedWhole, feedNumber, Piece, piece, begun, feedRule}
 use Rattle.stream.specs.Course.{replyOf, preceded, course}
 use Rattle.stream.proofs.Repeats.{at-last, kept}

@@ -17,7 +17,7 @@ use Rattle.wire.specs.declared.Saying.{Saying}
 use Rattle.wire.specs.Commands.{commandOf, bodyLength}
 use Rattle.commands.specs.Turns.{Run, tableOf, keyOf, calm, commandTurn}
 use Rattle.commands.specs.declared.Phase.{Phase}
-use Rattle.stream.specs.Heard.{gathered, withByte, heardIn, heard}
+use Rattle.hearing.specs.Heard.{gathered, withByte, heardIn, heard}
 use Rattle.stream.specs.Course.{Course, standing, walks, walkedIn, walked, settled, course}
 use Rattle.stream.specs.Calls.{commandCalls, gatheredCalls, heardCallsIn, heardCalls, shownCalls, stepCalls, walkCallsIn, walkCalls, settledCalls, calls}
 use Rattle.stream.proofs.Repeats.{kept}

@@ -5,7 +5,7 @@ use mathlib.Core.List.{List, [], _++_, append-nil, append-assoc}
 use mathlib.Core.Bool.{false}
 use mathlib.Core.Path.{_≡_, refl, sym, ap, _∙_}
 use Rattle.commands.specs.Turns.{Run}
-use Rattle.stream.specs.Heard.{walksIn}
+use Rattle.hearing.specs.Heard.{walksIn}
 use Rattle.stream.specs.Feeding.{feedRule}
 use Rattle.stream.specs.Course.{Course, preceded, course}
 use Rattle.stream.specs.Pieces.{takenOf, writtenOf, Pieces, none, more}

@@ -17,7 +17,7 @@ use Rattle.wire.specs.declared.Command.{Command}
 use Rattle.wire.specs.Commands.{commandOf, bodyLength}
 use Rattle.commands.specs.Turns.{Run, Turned, tableOf, commandTurn, walkBy, walkTurn}
 use Rattle.commands.specs.declared.Phase.{Phase}
-use Rattle.stream.specs.Heard.{gathered, withByte, heardIn, heard, possibleIn, possible}
+use Rattle.hearing.specs.Heard.{gathered, withByte, heardIn, heard, possibleIn, possible}
 use Rattle.stream.specs.Feeding.{Feeding, phaseOf, fedIn, fedOnce, going, fedWhole, begun, feedNumber, feedRule}
 use Rattle.stream.proofs.Repeats.{kept}
 use Rattle.stream.proofs.Walks.{Further, hop-further, walk-table}

@@ -24,7 +24,7 @@ use Rattle.history.specs.Refusals.{Numbers}
 use Rattle.history.proofs.Demand
 use Rattle.wire.specs.Replies.{longest}
 use Rattle.commands.specs.Turns.{Run, tableOf}
-use Rattle.stream.specs.Heard.{possible}
+use Rattle.hearing.specs.Heard.{possible}
 use Rattle.stream.specs.Feeding.{feedNumber, feedRule}
 use Rattle.stream.specs.Course.{Course, course}
 use Rattle.stream.specs.Pieces.{Pieces, none, more}

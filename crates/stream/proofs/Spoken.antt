@@ -24,7 +24,7 @@ use Rattle.wire.specs.Words.{bytesOf, wordsBytes, keyBytes}
 use Rattle.wire.specs.Replies.{sayingBytes, longest}
 use Rattle.commands.specs.Turns.{Run, Turned, tableOf, keyOf, rowOf, saidBy, sayKey, sayRow, calm, commandTurn, walkBy, walkTurn}
 use Rattle.commands.specs.declared.Phase.{Phase}
-use Rattle.stream.specs.Heard.{gathered, withByte, heardIn, heard}
+use Rattle.hearing.specs.Heard.{gathered, withByte, heardIn, heard}
 use Rattle.stream.specs.Course.{replyOf}
 
 -- of an answer something is said, if something is said where it gives

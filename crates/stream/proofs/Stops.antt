@@ -13,7 +13,7 @@ use Rattle.rules.proofs.Choice.{by-pick}
 use Rattle.wire.specs.Replies.{longest, fits}
 use Rattle.commands.specs.Turns.{Run}
 use Rattle.commands.specs.declared.Phase.{Phase}
-use Rattle.stream.specs.Heard.{walksIn}
+use Rattle.hearing.specs.Heard.{walksIn}
 use Rattle.stream.specs.Feeding.{Feeding, Piece, piece, phaseOf, waitsIn, waits, going, fedOnce, fedWhole, begun, feedNumber, feedRule}
 use Rattle.stream.proofs.Repeats.{stopped, kept}
 use Rattle.stream.proofs.Turns.{turn-length}

@@ -12,7 +12,7 @@ use Rattle.rules.proofs.Choice.{by-pick, both-true}
 use Rattle.wire.specs.Replies.{longest, fits, replied, repliedTo}
 use Rattle.commands.specs.Turns.{Turned, walkTurn}
 use Rattle.commands.specs.declared.Phase.{Phase}
-use Rattle.stream.specs.Heard.{heard}
+use Rattle.hearing.specs.Heard.{heard}
 use Rattle.stream.specs.Feeding.{Feeding, phaseOf, following, fedIn, fedOnce, waitsIn, waits, going}
 use Rattle.stream.specs.Course.{replyOf}
 use Rattle.stream.proofs.Spoken.{walk-speaks}

@@ -21,7 +21,7 @@ use Rattle.history.specs.Calls.{ask, hop}
 use Rattle.history.specs.Histories.{Table, left, outcome}
 use Rattle.commands.specs.Turns.{Run, tableOf, walkBy, walkTurn}
 use Rattle.commands.specs.declared.Phase.{Phase}
-use Rattle.stream.specs.Heard.{walksIn}
+use Rattle.hearing.specs.Heard.{walksIn}
 use Rattle.stream.specs.Repeats.{while}
 use Rattle.stream.specs.Course.{Course, standing, replyOf, preceded, walks, walkedIn, walked, settled}
 use Rattle.stream.proofs.Repeats.{stopped, onward}

@@ -11,7 +11,7 @@ use Rattle.wire.specs.Commands.{commandOf, bodyLength}
 use Rattle.wire.specs.declared.Command.{Command}
 use Rattle.commands.specs.Turns.{Run, tableOf, keyOf, rowOf}
 use Rattle.commands.specs.declared.Phase.{Phase}
-use Rattle.stream.specs.Heard.{withByte, heard}
+use Rattle.hearing.specs.Heard.{withByte, heard}
 use Rattle.stream.specs.Course.{standing, walked, settled}
 
 -- of a command whose body is whole

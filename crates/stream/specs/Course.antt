@@ -6,7 +6,7 @@ use Rattle.wire.specs.Replies.{sayingBytes}
 use Rattle.commands.specs.Turns.{Run, Turned, walkTurn}
 use Rattle.commands.specs.declared.Phase.{Phase}
 use Rattle.stream.specs.Repeats.{while}
-use Rattle.stream.specs.Heard.{walksIn, heard, endedIn}
+use Rattle.hearing.specs.Heard.{walksIn, heard, endedIn}
 
 -- the run so far, and all that was replied
 pub record Course : Type 0 where

@@ -13,7 +13,7 @@ use Rattle.commands.specs.declared.Stream.{Stream}
 use Rattle.stream.specs.declared.Fed.{Fed}
 use Rattle.stream.specs.declared.feeding.Progress.{Progress}
 use Rattle.stream.specs.Repeats.{while}
-use Rattle.stream.specs.Heard.{heard, endedIn, possible}
+use Rattle.hearing.specs.Heard.{heard, endedIn, possible}
 
 -- how far it is: the run, the bytes of the piece taken, the output, and the bytes of it written
 pub record Feeding : Type 0 where

@@ -1,6 +1,5 @@
 -- What the contracts of `stream` cite, and the rule of the whole stream. Read in this order. Assumes nothing.
 pub mod Repeats
-pub mod Heard
 pub mod Feeding
 pub mod Course
 pub mod Pieces

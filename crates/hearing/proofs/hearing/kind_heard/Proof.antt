@@ -1,13 +1,13 @@
--- `stream::kind_heard` meets its contract. Assumes nothing.
+-- `hearing::kind_heard` meets its contract. Assumes nothing.
 use Rattle.commands.specs.Turns.{Run}
 use denote.Ref.{now}
 use Rattle.wire.specs.declared.Command.{Command}
-use Rattle.stream.specs.Heard.{gathered}
-use Rattle.stream.proofs.Phases.{gathering, whole-body}
+use Rattle.hearing.specs.Heard.{gathered}
+use Rattle.hearing.proofs.Phases.{gathering, whole-body}
 use mathlib.Core.Path.{ap, _∙_}
 use borrow.Author.Needs.{needs}
-use Rattle.stream.proofs.hearing.kind_heard.Statement.{statement}
-use Rattle.stream.proofs.hearing.kind_heard.Tie as tie
+use Rattle.hearing.proofs.hearing.kind_heard.Statement.{statement}
+use Rattle.hearing.proofs.hearing.kind_heard.Tie as tie
 
 command-of-requires : tie.Need-command-of-requires
 command-of-requires c κs = search needs

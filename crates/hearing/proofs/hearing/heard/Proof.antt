@@ -1,9 +1,9 @@
--- `stream::heard` meets its contract. Assumes nothing.
+-- `hearing::heard` meets its contract. Assumes nothing.
 use mathlib.Core.Path.{_∙_}
-use Rattle.stream.proofs.Phases.{heard-by}
+use Rattle.hearing.proofs.Phases.{heard-by}
 use borrow.Author.Needs.{needs}
-use Rattle.stream.proofs.hearing.heard.Statement.{statement}
-use Rattle.stream.proofs.hearing.heard.Tie as tie
+use Rattle.hearing.proofs.hearing.heard.Statement.{statement}
+use Rattle.hearing.proofs.hearing.heard.Tie as tie
 
 enum-told : tie.Need-enum-told
 enum-told c = search needs

@@ -1,8 +1,8 @@
--- `stream::walk_possible` meets its contract. Assumes nothing.
+-- `hearing::walk_possible` meets its contract. Assumes nothing.
 use mathlib.Core.Path.{refl}
 use borrow.Author.Tests.{eq-eqb, ne-eqb, le-leb, lt-leb}
-use Rattle.stream.proofs.states.walk_possible.Statement.{statement}
-use Rattle.stream.proofs.states.walk_possible.Tie as tie
+use Rattle.hearing.proofs.states.walk_possible.Statement.{statement}
+use Rattle.hearing.proofs.states.walk_possible.Tie as tie
 
 returns : tie.Need-returns
 returns c = rw (eq-eqb _ _ (c .if1 .taken)) refl

@@ -1,10 +1,10 @@
--- `stream::with_byte` meets its contract. Assumes nothing.
+-- `hearing::with_byte` meets its contract. Assumes nothing.
 use native.Mathlib.Omega.{arith}
 use mathlib.Core.Path.{sym}
 use lib.Seq.{set-out}
 use borrow.Author.Needs.{needs}
-use Rattle.stream.proofs.hearing.with_byte.Statement.{statement}
-use Rattle.stream.proofs.hearing.with_byte.Tie as tie
+use Rattle.hearing.proofs.hearing.with_byte.Statement.{statement}
+use Rattle.hearing.proofs.hearing.with_byte.Tie as tie
 
 array-write-bytes : tie.Need-array-write-bytes
 array-write-bytes c = search needs

@@ -1,9 +1,9 @@
--- `stream::possible` meets its contract. Assumes nothing.
-use Rattle.stream.specs.Heard.{possible}
+-- `hearing::possible` meets its contract. Assumes nothing.
+use Rattle.hearing.specs.Heard.{possible}
 use mathlib.Core.Path.{refl}
 use borrow.Author.Needs.{needs}
-use Rattle.stream.proofs.states.possible.Statement.{statement}
-use Rattle.stream.proofs.states.possible.Tie as tie
+use Rattle.hearing.proofs.states.possible.Statement.{statement}
+use Rattle.hearing.proofs.states.possible.Tie as tie
 
 enum-told : tie.Need-enum-told
 enum-told c = search needs

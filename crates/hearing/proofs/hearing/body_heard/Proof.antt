@@ -1,11 +1,11 @@
--- `stream::body_heard` meets its contract. Assumes nothing.
+-- `hearing::body_heard` meets its contract. Assumes nothing.
 use Prim.Native.Nat.{_+_}
 use mathlib.Core.Path.{_∙_}
 use native.Mathlib.Omega.{arith}
-use Rattle.stream.proofs.Phases.{gathering, whole-body}
+use Rattle.hearing.proofs.Phases.{gathering, whole-body}
 use borrow.Author.Needs.{needs}
-use Rattle.stream.proofs.hearing.body_heard.Statement.{statement}
-use Rattle.stream.proofs.hearing.body_heard.Tie as tie
+use Rattle.hearing.proofs.hearing.body_heard.Statement.{statement}
+use Rattle.hearing.proofs.hearing.body_heard.Tie as tie
 
 with-byte-requires : tie.Need-with-byte-requires
 with-byte-requires c κs = search needs

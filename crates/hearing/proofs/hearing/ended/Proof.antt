@@ -1,7 +1,7 @@
--- `stream::ended` meets its contract. Assumes nothing.
+-- `hearing::ended` meets its contract. Assumes nothing.
 use borrow.Author.Needs.{needs}
-use Rattle.stream.proofs.hearing.ended.Statement.{statement}
-use Rattle.stream.proofs.hearing.ended.Tie as tie
+use Rattle.hearing.proofs.hearing.ended.Statement.{statement}
+use Rattle.hearing.proofs.hearing.ended.Tie as tie
 
 enum-told : tie.Need-enum-told
 enum-told c = search needs

@@ -5,17 +5,12 @@ ghost use lib.Dec.{eqb, leb};
 ghost use Rattle.rules.specs.Choice.{both, either};
 ghost use Rattle.wire.specs.Commands.{bodyBytes};
 ghost use Rattle.commands.specs.declared.Phase.{Phase};
-ghost use Rattle.stream.specs.Heard.{possible};
-ghost use Rattle.stream.specs.Feeding.{feedNumber};
+ghost use Rattle.hearing.specs.Heard.{possible};
 use commands::Phase;
 use commands::Stream;
 use hop::Cursor;
 use hop::Header;
-use hop::SHAPE;
-use refusals::or_if;
-use refusals::shape_number;
 use wire::BODY_BYTES;
-use wire::LONGEST;
 use wire::commands::body_length;
 
 // Before the first byte, with the header that start or rebuild has handed back.
@@ -54,13 +49,4 @@ pub fn possible(s: Stream) -> bool
         Phase::Walking(cursor) => walk_possible(cursor, header.used),
         Phase::Ended => true,
     }
-}
-
-// The number of a piece, from its tables, its state and the room of its output.
-pub fn feed_number(links: &[u32], rows: &[u32], s: Stream, room: usize) -> u32
-    ensures { λ r. ⌜ r ≡ feedNumber (now (links .entry)) (now (rows .entry)) s room ⌝ }
-{
-    let n = shape_number(links, rows, s.header);
-    let n = or_if(n, room < LONGEST, SHAPE);
-    or_if(n, !possible(s), SHAPE)
 }

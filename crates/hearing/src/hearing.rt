@@ -4,7 +4,7 @@ ghost use Prim.Native.Nat.{_+_};
 ghost use lib.ListN.{set};
 ghost use Rattle.wire.specs.Commands.{commandOf};
 ghost use Rattle.commands.specs.Turns.{turned};
-ghost use Rattle.stream.specs.Heard.{gathered, withByte, heard, endedIn};
+ghost use Rattle.hearing.specs.Heard.{gathered, withByte, heard, endedIn};
 use commands::Phase;
 use commands::Stream;
 use commands::Turn;

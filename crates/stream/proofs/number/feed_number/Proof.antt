@@ -2,8 +2,8 @@
 use mathlib.Core.Path.{refl}
 use Rattle.stream.specs.Feeding.{feedNumber}
 use borrow.Author.Needs.{needs}
-use Rattle.stream.proofs.states.feed_number.Statement.{statement}
-use Rattle.stream.proofs.states.feed_number.Tie as tie
+use Rattle.stream.proofs.number.feed_number.Statement.{statement}
+use Rattle.stream.proofs.number.feed_number.Tie as tie
 
 shape-number-requires : tie.Need-shape-number-requires
 shape-number-requires c κs = search needs

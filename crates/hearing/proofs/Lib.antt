@@ -1,0 +1,2 @@
+-- What the proofs of hearing share.
+mod Phases

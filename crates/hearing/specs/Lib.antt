@@ -1,0 +1,2 @@
+-- What the contracts of `hearing` cite. Assumes nothing.
+pub mod Heard
