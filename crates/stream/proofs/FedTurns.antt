@@ -11,6 +11,7 @@ use lib.Dec.{eqb, ltb}
 use borrow.Author.Tests.{ltb-true, eqb-true, eqb-false}
 use Rattle.rules.proofs.Choice.{by-pick, both-true}
 use Rattle.wire.specs.Replies.{longest, fits, replied, repliedTo}
+use Rattle.wire.proofs.Output.{fits-room}
 use Rattle.commands.specs.Turns.{Run, Turned, walkTurn}
 use Rattle.commands.specs.declared.Phase.{Phase}
 use Rattle.hearing.specs.Heard.{walksIn, heard}
@@ -18,15 +19,15 @@ use Rattle.stream.specs.Feeding.{Feeding, phaseOf, following, heardOnce,
 use Rattle.stream.specs.Course.{replyOf, preceded, course}
 use Rattle.stream.proofs.Repeats.{at-last, kept}
 use Rattle.stream.proofs.Spoken.{Fits, heard-fits, walk-fits}
-use Rattle.stream.proofs.Turns.{leftOf, room, forth, turn-less}
+use Rattle.stream.proofs.Turns.{leftOf, forth, turn-less}
 use Rattle.stream.proofs.Courses.{before-before, walk-first, byte-first}
 
 -- a reply that has room stands after what was written
-reply-stands : (out : List ℕ) (at : ℕ) (reply : List ℕ) → fits (length out) at ≡ true → length reply ≤ longest →
+pub reply-stands : (out : List ℕ) (at : ℕ) (reply : List ℕ) → fits (length out) at ≡ true → length reply ≤ longest →
     take (repliedTo out at reply) (replied out at reply) ≡ take at out ++ reply
 unfolding replied
 reply-stands out at reply h j =
-    let k = room (length out) at h in
+    let k = fits-room (length out) at h in
     rw (forth out at reply h, h, sets-eq reply out at (omega arith))
     (take-at (take at out ++ reply) (drop (at + length reply) out) (at + length reply) (simp (length-append, length-take) (omega arith)))
 

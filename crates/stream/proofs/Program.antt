@@ -6,13 +6,16 @@ use mathlib.Core.List.{List, [], _∷_, _++_, append-nil}
 use mathlib.Core.Bool.{true, not}
 use mathlib.Core.Path.{_≡_, refl, sym, ap, _∙_, subst}
 use lib.ListN.{length}
+use lib.Dec.{eqb}
 use borrow.Author.Tests.{eq-eqb, eqb-false, le-ltb}
-use Rattle.rules.specs.Values.{ends, done, refused, unless}
+use Rattle.rules.specs.Values.{gives, ends, Outcome, done, refused, unless}
 use Rattle.rules.specs.Refusals.{notLive, lentNumber, shapeNumber}
+use Rattle.rules.specs.Access.{keyNumber, lookRule, lookRowRule}
 use Rattle.rules.specs.Sound.{Sound}
 use Rattle.rules.specs.Start.{startRule}
 use Rattle.rules.specs.declared.Header.{Header}
 use Rattle.rules.specs.declared.Key.{Key}
+use Rattle.rules.proofs.Choice.{by-picks}
 use Rattle.rules.proofs.Refusals.{skipped}
 use Rattle.history.specs.Calls.{Call, ask, number, check, start}
 use Rattle.history.specs.Histories.{Table, left, answer, after, answers, looked, Begun}
@@ -80,6 +83,14 @@ module _ (s : Run) (b : Begun (tableOf s)) (bs : List ℕ) where
   -- 5. refusals: of any call that comes next
   pub refusals : (c : Call) → Numbers now c
   refusals c = carried (λ (x : Table). Numbers x c) (Demand.refusals t b cs (calls-within s bs) c)
+
+-- the row that a look replies with, and a step of a walk, is the one that its key has
+pub shown-row : (l r : List ℕ) (hd : Header) (k : Key) → lookRowRule l r hd k .answer .kind ≡ gives → lookRowRule l r hd k .row ≡ lookRule l r hd k
+unfolding lookRowRule lookRule unless
+shown-row l r hd k =
+    by-picks (λ (o : Outcome) (words : List ℕ). o .answer .kind ≡ gives → o .row ≡ words) (eqb (keyNumber l r hd k) 0) _ _ _ _
+    (λ _ _. refl)
+    (λ _ e. absurd (eqb-false 0 1 refl (cc)))
 
 -- pieces from a possible state lead to one
 pieces-possible : {s s′ : Run} {taken written : List ℕ} → Pieces s taken written s′ → possible (s .stream) ≡ true → possible (s′ .stream) ≡ true

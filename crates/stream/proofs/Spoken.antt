@@ -1,6 +1,6 @@
 -- What is said in a turn: a step of a walk always says something, and no reply is longer than the longest. Assumes nothing.
 use Prim.Native.Nat.{ℕ, _+_, _*_, _≤_, _<_}
-use mathlib.Core.List.{List, [], _∷_}
+use mathlib.Core.List.{List}
 use mathlib.Core.Path.{_≡_, refl}
 use native.Mathlib.Omega.{arith}
 use lib.ListN.{length, length-take, length-drop}
@@ -20,11 +20,12 @@ use Rattle.history.specs.Histories.{outcome}
 use Rattle.wire.specs.declared.Command.{Command}
 use Rattle.wire.specs.declared.Saying.{Saying}
 use Rattle.wire.specs.Commands.{commandOf, bodyLength}
-use Rattle.wire.specs.Words.{bytesOf, wordsBytes, keyBytes}
+use Rattle.wire.specs.Words.{bytesOf, keyBytes}
 use Rattle.wire.specs.Replies.{sayingBytes, longest}
+use Rattle.wire.proofs.Lengths.{saying-length}
 use Rattle.commands.specs.Turns.{Run, Turned, tableOf, keyOf, rowOf, saidBy, sayKey, sayRow, calm, commandTurn, walkBy, walkTurn}
 use Rattle.commands.specs.declared.Phase.{Phase}
-use Rattle.hearing.specs.Heard.{gathered, withByte, heardIn, heard}
+use Rattle.hearing.specs.Heard.{gathered, withByte, heardIn, heard, endedIn}
 use Rattle.stream.specs.Course.{replyOf}
 
 -- of an answer something is said, if something is said where it gives
@@ -52,20 +53,6 @@ pub walk-speaks : (s : Run) (c : ℕ) → 0 < length (replyOf (walkTurn s c))
 walk-speaks s c =
     let o = outcome (tableOf s) (ask (hop c)) in
     walk-by-speaks s o (o .answer .kind)
-
--- a reply with a row of eight words is the longest
-words-length : (ws : List ℕ) → length (wordsBytes ws) ≡ 4 * length ws
-unfolding wordsBytes bytesOf
-words-length [] = refl
-words-length (w ∷ ws) = omega (arith, words-length ws)
-
-saying-fits : (x : Saying) (row : List ℕ) → length row ≡ rowWords → length (sayingBytes x row) ≤ longest
-unfolding sayingBytes keyBytes bytesOf
-saying-fits Saying.Silent row h = omega arith
-saying-fits (Saying.WithKey k) row h = omega arith
-saying-fits (Saying.WithRow k) row h = omega (arith, words-length row)
-saying-fits Saying.Done row h = omega arith
-saying-fits (Saying.Refused n) row h = omega arith
 
 -- with a key alone the row is not said
 key-fits : (v : Values) (row : List ℕ) → length (sayingBytes (sayKey v) row) ≤ longest
@@ -104,12 +91,12 @@ abbrev pub Fits : Turned → Type 0
 Fits t = length (replyOf t) ≤ longest
 
 calm-fits : (s : Run) (p : Phase) (x : Saying) → Fits (calm s p x)
-calm-fits s p x = saying-fits x zeroRow refl
+calm-fits s p x = saying-length x zeroRow refl
 
 command-fits : (k : Command) (s : Run) → Fits (commandTurn k s)
 command-fits Command.Insert s = key-fits (outcome (tableOf s) (insert (rowOf s)) .answer) _
-command-fits Command.Remove s = saying-fits _ _ (remove-row (s .links) (s .rows) (s .stream .header) (keyOf s))
-command-fits Command.Look s = saying-fits _ _ (look-row (s .links) (s .rows) (s .stream .header) (keyOf s))
+command-fits Command.Remove s = saying-length _ _ (remove-row (s .links) (s .rows) (s .stream .header) (keyOf s))
+command-fits Command.Look s = saying-length _ _ (look-row (s .links) (s .rows) (s .stream .header) (keyOf s))
 command-fits Command.Clear s = key-fits (outcome (tableOf s) clear .answer) _
 command-fits Command.Walk s = calm-fits s (Phase.Walking 0) Saying.Silent
 command-fits Command.Unknown s = calm-fits s Phase.Ended (Saying.Refused brokenStream)
@@ -134,6 +121,12 @@ walk-fits s c =
     by o (o .answer .kind)
   where
     by : (o : Outcome) (k : Kind) → Fits (walkBy s o k)
-    by o gives = saying-fits _ _ (look-row (s .links) (s .rows) (s .stream .header) (o .answer .key))
+    by o gives = saying-length _ _ (look-row (s .links) (s .rows) (s .stream .header) (o .answer .key))
     by o ends = calm-fits s Phase.Between (sayKey (o .answer))
     by o refuses = calm-fits s Phase.Between (sayKey (o .answer))
+
+pub ended-fits : (p : Phase) (s : Run) → Fits (endedIn p s)
+ended-fits Phase.Between s = calm-fits s Phase.Between Saying.Silent
+ended-fits (Phase.Gathering k got) s = calm-fits s Phase.Ended (Saying.Refused brokenStream)
+ended-fits (Phase.Walking c) s = calm-fits s (Phase.Walking c) Saying.Silent
+ended-fits Phase.Ended s = calm-fits s Phase.Ended Saying.Silent

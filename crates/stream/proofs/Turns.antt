@@ -5,11 +5,11 @@ use mathlib.Core.Bool.{true}
 use mathlib.Core.Path.{_≡_, refl}
 use native.Mathlib.Omega.{arith}
 use lib.ListN.{length, getD}
-use lib.Seq.{length-sets}
 use lib.Dec.{ltb}
-use borrow.Author.Tests.{ltb-true, leb-true, eqb-false}
+use borrow.Author.Tests.{ltb-true, eqb-false}
 use Rattle.rules.proofs.Choice.{by-pick, both-true}
-use Rattle.wire.specs.Replies.{longest, fits, replied, repliedTo}
+use Rattle.wire.specs.Replies.{fits, repliedTo}
+use Rattle.wire.proofs.Output.{replied-keeps, fits-room}
 use Rattle.commands.specs.Turns.{Turned, walkTurn}
 use Rattle.commands.specs.declared.Phase.{Phase}
 use Rattle.hearing.specs.Heard.{heard}
@@ -21,33 +21,24 @@ use Rattle.stream.proofs.Spoken.{walk-speaks}
 abbrev pub leftOf : ℕ → Feeding → ℕ
 leftOf n f = (n - f .taken) + (length (f .out) - f .written)
 
--- a reply leaves the output as long as it was; nothing written is taken back
-pub same-length : (out : List ℕ) (at : ℕ) (reply : List ℕ) → length (replied out at reply) ≡ length out
-unfolding replied
-same-length out at reply =
-    by-pick (λ (w : List ℕ). length w ≡ length out) (fits (length out) at) _ _ (λ _. length-sets out at reply) (λ _. refl)
-
+-- nothing written is taken back
 pub not-back : (out : List ℕ) (at : ℕ) (reply : List ℕ) → at ≤ repliedTo out at reply
 unfolding repliedTo
 not-back out at reply = by-pick (λ (n : ℕ). at ≤ n) (fits (length out) at) _ _ (λ _. omega arith) (λ _. omega arith)
 
 -- where any reply has room it is written whole
-pub room : (n at : ℕ) → fits n at ≡ true → at + longest ≤ n
-unfolding fits
-room n at h = leb-true _ _ h
-
 pub forth : (out : List ℕ) (at : ℕ) (reply : List ℕ) → fits (length out) at ≡ true → repliedTo out at reply ≡ at + length reply
 unfolding repliedTo
 forth out at reply h = rw h refl
 
 -- a turn that takes a byte, and one that says something
 takes : (n : ℕ) (f : Feeding) (t : Turned) → f .taken < n → leftOf n (following (f .taken + 1) (f .out) (f .written) t) < leftOf n f
-takes n f t h = omega (arith, same-length (f .out) (f .written) (replyOf t), not-back (f .out) (f .written) (replyOf t))
+takes n f t h = omega (arith, replied-keeps (f .out) (f .written) (replyOf t), not-back (f .out) (f .written) (replyOf t))
 
 says : (n : ℕ) (f : Feeding) (t : Turned) → fits (length (f .out)) (f .written) ≡ true → 0 < length (replyOf t) →
     leftOf n (following (f .taken) (f .out) (f .written) t) < leftOf n f
 says n f t h p =
-    omega (arith, same-length (f .out) (f .written) (replyOf t), forth (f .out) (f .written) (replyOf t) h, room (length (f .out)) (f .written) h)
+    omega (arith, replied-keeps (f .out) (f .written) (replyOf t), forth (f .out) (f .written) (replyOf t) h, fits-room (length (f .out)) (f .written) h)
 
 fed-less : (input : List ℕ) (f : Feeding) (p : Phase) → fits (length (f .out)) (f .written) ≡ true →
     waitsIn p (ltb (f .taken) (length input)) ≡ true →
@@ -66,10 +57,10 @@ turn-less input f g =
 
 -- and the output as long as it was
 fed-length : (input : List ℕ) (f : Feeding) (p : Phase) → length (fedIn p input f .out) ≡ length (f .out)
-fed-length input f Phase.Between = same-length (f .out) (f .written) _
-fed-length input f (Phase.Gathering k got) = same-length (f .out) (f .written) _
-fed-length input f (Phase.Walking c) = same-length (f .out) (f .written) _
-fed-length input f Phase.Ended = same-length (f .out) (f .written) _
+fed-length input f Phase.Between = replied-keeps (f .out) (f .written) _
+fed-length input f (Phase.Gathering k got) = replied-keeps (f .out) (f .written) _
+fed-length input f (Phase.Walking c) = replied-keeps (f .out) (f .written) _
+fed-length input f Phase.Ended = replied-keeps (f .out) (f .written) _
 
 pub turn-length : (input : List ℕ) (f : Feeding) → length (fedOnce input f .out) ≡ length (f .out)
 unfolding fedOnce

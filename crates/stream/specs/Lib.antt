@@ -4,3 +4,4 @@ pub mod Feeding
 pub mod Course
 pub mod Pieces
 pub mod Calls
+pub mod Day
