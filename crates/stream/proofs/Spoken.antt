@@ -25,8 +25,8 @@ use Rattle.wire.specs.Replies.{sayingBytes, longest}
 use Rattle.wire.proofs.Lengths.{saying-length}
 use Rattle.commands.specs.Turns.{Run, Turned, tableOf, keyOf, rowOf, saidBy, sayKey, sayRow, calm, commandTurn, walkBy, walkTurn}
 use Rattle.commands.specs.declared.Phase.{Phase}
+use Rattle.stream.specs.Feeding.{replyOf}
 use Rattle.hearing.specs.Heard.{gathered, withByte, heardIn, heard, endedIn}
-use Rattle.stream.specs.Course.{replyOf}
 
 -- of an answer something is said, if something is said where it gives
 said-speaks : (k : Kind) (x : Saying) (n : ℕ) (row : List ℕ) → 0 < length (sayingBytes x row) → 0 < length (sayingBytes (saidBy k x n) row)

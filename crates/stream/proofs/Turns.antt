@@ -13,8 +13,7 @@ use Rattle.wire.proofs.Output.{replied-keeps, fits-room}
 use Rattle.commands.specs.Turns.{Turned, walkTurn}
 use Rattle.commands.specs.declared.Phase.{Phase}
 use Rattle.hearing.specs.Heard.{heard}
-use Rattle.stream.specs.Feeding.{Feeding, phaseOf, following, fedIn, fedOnce, waitsIn, waits, going}
-use Rattle.stream.specs.Course.{replyOf}
+use Rattle.stream.specs.Feeding.{replyOf, Feeding, phaseOf, following, fedIn, fedOnce, waitsIn, waits, going}
 use Rattle.stream.proofs.Spoken.{walk-speaks}
 
 -- the bytes of the piece and of the output that are left

@@ -29,10 +29,14 @@ phaseOf f = f .run .stream .phase
 abbrev pub feeding : Progress → List ℕ → List ℕ → List ℕ → Feeding
 feeding x l r out = record { run = record { links = l; rows = r; stream = x .stream }; taken = x .taken; out = out; written = x .written }
 
+-- the reply of a turn, in bytes
+abbrev pub replyOf : Turned → List ℕ
+replyOf t = sayingBytes (t .saying) (t .row)
+
 -- after a turn: its reply follows what is written
 abbrev pub following : ℕ → List ℕ → ℕ → Turned → Feeding
 following taken out written t =
-    let reply = sayingBytes (t .saying) (t .row) in
+    let reply = replyOf t in
     record { run = t .run; taken = taken; out = replied out written reply; written = repliedTo out written reply }
 
 -- the next byte of the piece is heard; a step of the walk that is under way

@@ -12,12 +12,12 @@ use Rattle.rules.proofs.Refusals.{passed}
 use Rattle.wire.specs.Replies.{longest, fits}
 use Rattle.commands.specs.Turns.{Run}
 use Rattle.hearing.specs.Heard.{walksIn, endedIn}
-use Rattle.stream.specs.Feeding.{Piece, piece, feedNumber, finishRule}
-use Rattle.stream.specs.Course.{Course, replyOf, follows, whole}
-use Rattle.stream.specs.Pieces.{writtenOf, Pieces}
+use Rattle.stream.specs.Feeding.{replyOf, Piece, piece, feedNumber, finishRule}
+use Rattle.course.specs.Course.{Course, follows, whole}
+use Rattle.course.specs.Pieces.{writtenOf, Pieces}
 use Rattle.stream.proofs.Spoken.{ended-fits}
-use Rattle.stream.proofs.FedTurns.{reply-stands}
-use Rattle.stream.proofs.Pieces.{whole-course}
+use Rattle.course.proofs.FedTurns.{reply-stands}
+use Rattle.course.proofs.Pieces.{whole-course}
 
 -- a number of 0 says that the output has room for a reply
 has-room : (s : Run) (n : ℕ) → feedNumber (s .links) (s .rows) (s .stream) n ≡ 0 → fits n 0 ≡ true

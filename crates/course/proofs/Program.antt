@@ -3,19 +3,21 @@
 -- And in such a history no feed is refused, as long as its output has room for a reply. Assumes nothing.
 use Prim.Native.Nat.{ℕ, _<_, _≤_, max}
 use mathlib.Core.List.{List, [], _∷_, _++_, append-nil}
-use mathlib.Core.Bool.{true, not}
+use mathlib.Core.Bool.{Bool, true, not}
 use mathlib.Core.Path.{_≡_, refl, sym, ap, _∙_, subst}
 use lib.ListN.{length}
 use lib.Dec.{eqb}
 use borrow.Author.Tests.{eq-eqb, eqb-false, le-ltb}
-use Rattle.rules.specs.Values.{gives, ends, Outcome, done, refused, unless}
+use Rattle.rules.specs.Values.{gives, ends, Outcome, keyed, done, refused, refusal, unless}
 use Rattle.rules.specs.Refusals.{notLive, lentNumber, shapeNumber}
+use Rattle.rules.specs.Choice.{pick}
+use Rattle.rules.specs.Words.{rowAt}
 use Rattle.rules.specs.Access.{keyNumber, lookRule, lookRowRule}
 use Rattle.rules.specs.Sound.{Sound}
 use Rattle.rules.specs.Start.{startRule}
 use Rattle.rules.specs.declared.Header.{Header}
 use Rattle.rules.specs.declared.Key.{Key}
-use Rattle.rules.proofs.Choice.{by-picks}
+use Rattle.rules.proofs.Choice.{by-test}
 use Rattle.rules.proofs.Refusals.{skipped}
 use Rattle.history.specs.Calls.{Call, ask, number, check, start}
 use Rattle.history.specs.Histories.{Table, left, answer, after, answers, looked, Begun}
@@ -28,13 +30,13 @@ use Rattle.history.proofs.Demand
 use Rattle.wire.specs.Replies.{longest}
 use Rattle.commands.specs.Turns.{Run, tableOf}
 use Rattle.hearing.specs.Heard.{possible}
 use Rattle.stream.specs.Feeding.{feedNumber, feedRule}
-use Rattle.stream.specs.Course.{Course, course}
-use Rattle.stream.specs.Pieces.{Pieces, none, more}
-use Rattle.stream.specs.Calls.{calls}
-use Rattle.stream.proofs.Pieces.{pieces}
-use Rattle.stream.proofs.Possible.{feed-possible}
-use Rattle.stream.proofs.Histories.{calls-lead, calls-within, settled-table}
+use Rattle.course.specs.Course.{Course, course}
+use Rattle.course.specs.Pieces.{Pieces, none, more}
+use Rattle.course.specs.Calls.{calls}
+use Rattle.course.proofs.Pieces.{pieces}
+use Rattle.course.proofs.Possible.{feed-possible}
+use Rattle.course.proofs.Histories.{calls-lead, calls-within, settled-table}
 
 -- the table that a start leaves, where it is not refused, is one that a history begins with
 pub start-begins : (l r : List ℕ) (hd : Header) → lentNumber (length l) (length r) ≡ 0 → Begun (left (startRule l r hd))
@@ -88,7 +90,10 @@ module _ (s : Run) (b : Begun (tableOf s)) (bs : List ℕ) where
 pub shown-row : (l r : List ℕ) (hd : Header) (k : Key) → lookRowRule l r hd k .answer .kind ≡ gives → lookRowRule l r hd k .row ≡ lookRule l r hd k
 unfolding lookRowRule lookRule unless
 shown-row l r hd k =
-    by-picks (λ (o : Outcome) (words : List ℕ). o .answer .kind ≡ gives → o .row ≡ words) (eqb (keyNumber l r hd k) 0) _ _ _ _
+    let n = keyNumber l r hd k in
+    let words = rowAt r (hd .used) (k .index) in
+    let given : Outcome = record { answer = keyed k; row = words; header = hd; links = l; rows = r } in
+    by-test (λ (t : Bool). let o = pick t given (refusal l r hd n) in o .answer .kind ≡ gives → o .row ≡ pick t words []) (eqb n 0)
     (λ _ _. refl)
     (λ _ e. absurd (eqb-false 0 1 refl (cc)))
 

@@ -6,12 +6,12 @@ use mathlib.Core.Bool.{false}
 use mathlib.Core.Path.{_≡_, refl, sym, ap, _∙_}
 use Rattle.commands.specs.Turns.{Run}
 use Rattle.hearing.specs.Heard.{walksIn}
 use Rattle.stream.specs.Feeding.{feedRule}
-use Rattle.stream.specs.Course.{Course, preceded, course}
-use Rattle.stream.specs.Pieces.{takenOf, writtenOf, Pieces, none, more}
-use Rattle.stream.proofs.Walks.{settled-still}
-use Rattle.stream.proofs.Courses.{before-before}
-use Rattle.stream.proofs.FedTurns.{whole-fed, unrefused}
+use Rattle.course.specs.Course.{Course, preceded, course}
+use Rattle.course.specs.Pieces.{takenOf, writtenOf, Pieces, none, more}
+use Rattle.course.proofs.Walks.{settled-still}
+use Rattle.course.proofs.Courses.{before-before}
+use Rattle.course.proofs.FedTurns.{whole-fed, unrefused}
 
 -- one piece: what it took leads to what it wrote and to its run, whatever comes after
 pub piece : (s : Run) (input out : List ℕ) → let p = feedRule s input out in p .number ≡ 0 → (rest : List ℕ) →

@@ -3,7 +3,7 @@ use mathlib.Core.Path.{refl}
 use Rattle.rules.specs.Choice.{allBelow, someBelow, countBelow, alike}
 use Rattle.rules.specs.Words.{linkAt, setLink, newSlot, rowAt, setRow, vacantAt, occupiedAt}
 use Rattle.rules.specs.Values.{unless}
-use Rattle.rules.specs.Refusals.{lentNumber, headerNumber, shapeNumber, sideNumber, zeroNumber, liveKey, liveNumber, entryNumber, sideEntryNumber}
+use Rattle.rules.specs.Refusals.{_▸_, lentNumber, headerNumber, shapeNumber, sideNumber, zeroNumber, liveKey, liveNumber, entryNumber, sideEntryNumber}
 use Rattle.rules.specs.Start.{startRule}
 use Rattle.rules.specs.Access.{keyNumber, lookRowRule}
 use Rattle.rules.specs.Insert.{runNumber, takeNumber, insertNumber, takeNew, takeSlot, takeLast, takeBack, shortened, insertStep, insertBy, insertRule}
@@ -17,10 +17,10 @@ use Rattle.wire.specs.Commands.{commandOf}
 use Rattle.wire.specs.Words.{bytesOf, wordsBytes, keyBytes, wordAt, keyIn, rowIn}
 use Rattle.wire.specs.Replies.{sayingBytes, fits, replied, repliedTo}
 use Rattle.hearing.specs.Heard.{heard, possible}
 use Rattle.stream.specs.Repeats.{while}
 use Rattle.stream.specs.Feeding.{fedOnce, waits, going, fedWhole, feedNumber, feedRule}
-use Rattle.stream.specs.Course.{walked, settled}
-use Rattle.stream.specs.Day.{Told}
+use Rattle.course.specs.Course.{walked, settled}
+use Rattle.course.specs.Day.{Told}
 
 tried : Told
 unfolding allBelow someBelow countBelow alike linkAt setLink newSlot rowAt setRow vacantAt occupiedAt unless _▸_ lentNumber headerNumber shapeNumber sideNumber zeroNumber liveKey liveNumber entryNumber sideEntryNumber startRule keyNumber lookRowRule runNumber takeNumber insertNumber takeNew takeSlot takeLast takeBack shortened insertStep insertBy insertRule apartNumber leftNumber rightNumber removeNumber setApart joinRight joinLeft joinBoth freed removeStep removeBy removeSlot slotNumber removeAt removeRule pastFront isFront isBack frontOf hopNumber hopAnswer hopFrom hopRule drainRule endsTest circleTest soundTest soundNumber drainTimes clearRule commandOf bytesOf wordsBytes keyBytes wordAt keyIn rowIn sayingBytes fits replied repliedTo heard possible while fedOnce waits going fedWhole feedNumber feedRule walked settled

@@ -7,9 +7,10 @@ use Rattle.wire.specs.declared.Saying.{Saying}
 use Rattle.wire.specs.Replies.{sayingBytes}
 use Rattle.commands.specs.Turns.{Run, calm, walkTurn}
 use Rattle.commands.specs.declared.Phase.{Phase}
+use Rattle.stream.specs.Feeding.{replyOf}
 use Rattle.hearing.specs.Heard.{walksIn, heardIn, heard}
-use Rattle.stream.specs.Course.{Course, standing, replyOf, preceded, settled, course}
-use Rattle.stream.proofs.Walks.{settled-still, settled-step}
+use Rattle.course.specs.Course.{Course, standing, preceded, settled, course}
+use Rattle.course.proofs.Walks.{settled-still, settled-step}
 
 -- replies made before replies
 pub before-before : (xs ys : List ℕ) (x : Course) → preceded xs (preceded ys x) ≡ preceded (xs ++ ys) x

@@ -2,10 +2,10 @@
 use Prim.Native.Nat.{ℕ, suc}
 use mathlib.Core.List.{List, [], _∷_, _++_}
 use mathlib.Core.Bool.{Bool}
-use Rattle.wire.specs.Replies.{sayingBytes}
 use Rattle.commands.specs.Turns.{Run, Turned, walkTurn}
 use Rattle.commands.specs.declared.Phase.{Phase}
 use Rattle.stream.specs.Repeats.{while}
+use Rattle.stream.specs.Feeding.{replyOf}
 use Rattle.hearing.specs.Heard.{walksIn, heard, endedIn}
 
 -- the run so far, and all that was replied
@@ -17,10 +17,7 @@ pub record Course : Type 0 where
 abbrev pub standing : Run → Course
 standing s = record { run = s; said = [] }
 
--- the reply of a turn, in bytes; a turn after what was replied; a course after replies made before it
-abbrev pub replyOf : Turned → List ℕ
-replyOf t = sayingBytes (t .saying) (t .row)
-
+-- a turn after what was replied; a course after replies made before it
 abbrev pub follows : List ℕ → Turned → Course
 follows said t = record { run = t .run; said = said ++ replyOf t }
 

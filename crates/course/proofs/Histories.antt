@@ -18,10 +18,10 @@ use Rattle.wire.specs.Commands.{commandOf, bodyLength}
 use Rattle.commands.specs.Turns.{Run, tableOf, keyOf, calm, commandTurn}
 use Rattle.commands.specs.declared.Phase.{Phase}
 use Rattle.hearing.specs.Heard.{gathered, withByte, heardIn, heard}
-use Rattle.stream.specs.Course.{Course, standing, walks, walkedIn, walked, settled, course}
-use Rattle.stream.specs.Calls.{commandCalls, gatheredCalls, heardCallsIn, heardCalls, shownCalls, stepCalls, walkCallsIn, walkCalls, settledCalls, calls}
+use Rattle.course.specs.Course.{Course, standing, walks, walkedIn, walked, settled, course}
+use Rattle.course.specs.Calls.{commandCalls, gatheredCalls, heardCallsIn, heardCalls, shownCalls, stepCalls, walkCallsIn, walkCalls, settledCalls, calls}
 use Rattle.stream.proofs.Repeats.{kept}
-use Rattle.stream.proofs.Walks.{look-table, walk-table}
+use Rattle.course.proofs.Walks.{look-table, walk-table}
 
 -- calls after calls
 after-both : (t : Table) (xs ys : List Call) → after t (xs ++ ys) ≡ after (after t xs) ys

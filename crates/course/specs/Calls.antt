@@ -12,7 +12,7 @@ use Rattle.wire.specs.declared.Command.{Command}
 use Rattle.commands.specs.Turns.{Run, tableOf, keyOf, rowOf}
 use Rattle.commands.specs.declared.Phase.{Phase}
 use Rattle.hearing.specs.Heard.{withByte, heard}
-use Rattle.stream.specs.Course.{standing, walked, settled}
+use Rattle.course.specs.Course.{standing, walked, settled}
 
 -- of a command whose body is whole
 abbrev pub commandCalls : Command → Run → List Call

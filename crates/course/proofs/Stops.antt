@@ -14,10 +14,10 @@ use Rattle.wire.specs.Replies.{longest, fits}
 use Rattle.commands.specs.Turns.{Run}
 use Rattle.commands.specs.declared.Phase.{Phase}
 use Rattle.hearing.specs.Heard.{walksIn}
 use Rattle.stream.specs.Feeding.{Feeding, Piece, piece, phaseOf, waitsIn, waits, going, fedOnce, fedWhole, begun, feedNumber, feedRule}
 use Rattle.stream.proofs.Repeats.{stopped, kept}
 use Rattle.stream.proofs.Turns.{turn-length}
-use Rattle.stream.proofs.FedTurns.{whole-fed, fed-to-end, unrefused}
+use Rattle.course.proofs.FedTurns.{whole-fed, fed-to-end, unrefused}
 
 -- of two tests that do not both hold, the first does not where the second does; and where the second does not hold, both do not
 first-fails : (a b : Bool) → both a b ≡ false → b ≡ true → a ≡ false

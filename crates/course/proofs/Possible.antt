@@ -18,10 +18,10 @@ use Rattle.wire.specs.Commands.{commandOf, bodyLength}
 use Rattle.commands.specs.Turns.{Run, Turned, tableOf, commandTurn, walkBy, walkTurn}
 use Rattle.commands.specs.declared.Phase.{Phase}
 use Rattle.hearing.specs.Heard.{gathered, withByte, heardIn, heard, possibleIn, possible}
 use Rattle.stream.specs.Feeding.{Feeding, phaseOf, fedIn, fedOnce, going, fedWhole, begun, feedNumber, feedRule}
 use Rattle.stream.proofs.Repeats.{kept}
-use Rattle.stream.proofs.Walks.{Further, hop-further, walk-table}
-use Rattle.stream.proofs.FedTurns.{unrefused}
+use Rattle.course.proofs.Walks.{Further, hop-further, walk-table}
+use Rattle.course.proofs.FedTurns.{unrefused}
 
 -- the state that a turn leaves is possible
 abbrev pub Possible : Turned → Type 0

@@ -15,12 +15,12 @@ use Rattle.wire.proofs.Output.{fits-room}
 use Rattle.commands.specs.Turns.{Run, Turned, walkTurn}
 use Rattle.commands.specs.declared.Phase.{Phase}
 use Rattle.hearing.specs.Heard.{walksIn, heard}
-use Rattle.stream.specs.Feeding.{Feeding, phaseOf, following, heardOnce, walkedOnce, fedIn, fedOnce, waitsIn, waits, going, fedWhole, feedNumber, Piece, piece, begun, feedRule}
-use Rattle.stream.specs.Course.{replyOf, preceded, course}
+use Rattle.stream.specs.Feeding.{replyOf, Feeding, phaseOf, following, heardOnce, walkedOnce, fedIn, fedOnce, waitsIn, waits, going, fedWhole, feedNumber, Piece, piece, begun, feedRule}
+use Rattle.course.specs.Course.{preceded, course}
 use Rattle.stream.proofs.Repeats.{at-last, kept}
 use Rattle.stream.proofs.Spoken.{Fits, heard-fits, walk-fits}
 use Rattle.stream.proofs.Turns.{leftOf, forth, turn-less}
-use Rattle.stream.proofs.Courses.{before-before, walk-first, byte-first}
+use Rattle.course.proofs.Courses.{before-before, walk-first, byte-first}
 
 -- a reply that has room stands after what was written
 pub reply-stands : (out : List ℕ) (at : ℕ) (reply : List ℕ) → fits (length out) at ≡ true → length reply ≤ longest →

@@ -21,10 +21,11 @@ use Rattle.history.specs.Calls.{ask, hop}
 use Rattle.history.specs.Histories.{Table, left, outcome}
 use Rattle.commands.specs.Turns.{Run, tableOf, walkBy, walkTurn}
 use Rattle.commands.specs.declared.Phase.{Phase}
+use Rattle.stream.specs.Feeding.{replyOf}
 use Rattle.hearing.specs.Heard.{walksIn}
 use Rattle.stream.specs.Repeats.{while}
-use Rattle.stream.specs.Course.{Course, standing, replyOf, preceded, walks, walkedIn, walked, settled}
+use Rattle.course.specs.Course.{Course, standing, preceded, walks, walkedIn, walked, settled}
 use Rattle.stream.proofs.Repeats.{stopped, onward}
 
 -- the cursor c goes on to c′: further, past no slot that is not in use, and past slot 0
 pub record Further (c used c′ : ℕ) : Type 0 where

@@ -7,8 +7,8 @@ use Rattle.rules.specs.Start.{startRule}
 use Rattle.wire.specs.Commands.{bodyBytes}
 use Rattle.commands.specs.Turns.{Run}
 use Rattle.commands.specs.declared.Phase.{Phase}
 use Rattle.stream.specs.Feeding.{Piece, feedRule}
-use Rattle.stream.specs.Course.{course, whole}
+use Rattle.course.specs.Course.{course, whole}
 
 -- the run that start leaves, of zeroed tables
 abbrev pub morning : Run
