@@ -5,10 +5,10 @@ ghost use Prim.Native.Nat.{_+_, _<_};
 ghost use lib.ListN.{length};
 ghost use lib.Dec.{ltb};
 ghost use Rattle.rules.specs.Choice.{both};
-ghost use Rattle.wire.specs.Replies.{fits};
+ghost use Rattle.wire.specs.Replies.{sayingBytes, fits, replied, repliedTo};
 ghost use Rattle.commands.specs.Turns.{turned};
 ghost use Rattle.hearing.specs.Heard.{walksIn, cursorIn};
-ghost use Rattle.stream.specs.Feeding.{feeding, following, heardOnce, fedOnce, waitsIn, fed, begun, fedWhole, feedRule, finishRule};
+ghost use Rattle.stream.specs.Feeding.{feeding, heardOnce, fedOnce, waitsIn, fed, begun, fedWhole, feedRule, finishRule};
 use crate::Fed;
 use crate::number::feed_number;
 use commands::Phase;
@@ -29,15 +29,9 @@ pub struct Progress {
 }
 
 // The reply of a turn follows what is written.
-fn spoken(
-    links: &[u32],
-    rows: &[u32],
-    out: &mut [u8],
-    taken: usize,
-    written: usize,
-    t: Turn,
-) -> Progress
-    ensures { λ r. ⌜ feeding r (now (links .entry)) (now (rows .entry)) (now (out .exit)) ≡ following taken (now (out .entry)) written (turned t (now (links .entry)) (now (rows .entry))) ⌝ }
+fn spoken(out: &mut [u8], taken: usize, written: usize, t: Turn) -> Progress
+    ensures { λ r. ⌜ r ≡ record { stream = t .stream; taken = taken; written = repliedTo (now (out .entry)) written (sayingBytes (t .saying) (t .row)) } ⌝ }
+    ensures { λ _. ⌜ now (out .exit) ≡ replied (now (out .entry)) written (sayingBytes (t .saying) (t .row)) ⌝ }
 {
     let stream = t.stream;
     let row = t.row;
@@ -63,7 +57,7 @@ fn heard_once(
 {
     let taken = f.taken;
     let t = heard(links, rows, f.stream, input[taken]);
-    spoken(links, rows, out, taken + 1, f.written, t)
+    spoken(out, taken + 1, f.written, t)
 }
 
 // Whether a walk is under way, and where it stands.
@@ -111,7 +105,7 @@ fn fed_once(
     let walk = walk_in(phase);
     if walk.walks {
         let t = walk_turn(links, rows, s, walk.cursor);
-        return spoken(links, rows, out, f.taken, f.written, t);
+        return spoken(out, f.taken, f.written, t);
     }
     heard_once(links, rows, input, out, f)
 }
@@ -208,6 +202,6 @@ pub fn finish(links: &[u32], rows: &[u32], s: Stream, out: &mut [u8]) -> Fed
         return refused(number, s);
     }
     let t = ended(links, rows, s);
-    let f = spoken(links, rows, out, 0, 0, t);
+    let f = spoken(out, 0, 0, t);
     piece(f, 0)
 }

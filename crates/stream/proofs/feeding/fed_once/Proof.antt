@@ -1,9 +1,9 @@
 -- `stream::fed_once` meets its contract. Assumes nothing.
-use Rattle.stream.proofs.Phases.{walked-by, heard-once-by, byte-waits}
-use Rattle.stream.specs.Feeding.{following}
+use Rattle.stream.proofs.Phases.{walked-by, heard-once-by, byte-waits, spoken-is}
+use Rattle.stream.specs.Feeding.{Feeding, feeding}
 use borrow.Author.Tests.{ltb-true}
 use denote.Ref.{now}
-use mathlib.Core.Path.{ap, _∙_}
+use mathlib.Core.Path.{_∙_}
 use borrow.Author.Needs.{needs}
 use Rattle.stream.proofs.feeding.fed_once.Statement.{statement}
 use Rattle.stream.proofs.feeding.fed_once.Tie as tie
@@ -28,11 +28,11 @@ same-length-3 c = search needs
 
 returns : tie.Need-returns
 returns c =
-    let a = c .before .before .before .before .before .before .before .before .before .before .before .before .before .before .before .before .args in
-    let w = c .before .before .before .before .before .before .before .before .before .before .walk-in in
-    c .before .before .spoken .ensures
-    ∙ ap (following _ _ _) (c .before .before .before .before .before .before .walk-turn .ensures)
-    ∙ rw (w .ensures) (walked-by (now (a .input)) _ (rw (w .ensures) at (c .before .before .before .before .before .before .before .before .before .if1 .taken)))
+    let a = c .before .before .before .before .before .before .before .before .before .before .before .before .before .before .args in
+    let before : Feeding = feeding (a .f) (now (a .links)) (now (a .rows)) (now (a .out)) in
+    let w = c .before .before .before .before .before .before .before .before .walk-in in
+    spoken-is _ _ _ _ _ _ _ _ _ (c .before .before .spoken .ensures .0) (c .before .before .spoken .ensures .1) (c .before .before .before .before .walk-turn .ensures)
+    ∙ rw (w .ensures) (walked-by (now (a .input)) before (rw (w .ensures) at (c .before .before .before .before .before .before .before .if1 .taken)))
 
 heard-once-requires : tie.Need-heard-once-requires
 heard-once-requires c κs =
@@ -51,7 +51,8 @@ same-length-6 c = search needs
 returns-2 : tie.Need-returns-2
 returns-2 c =
     let a = c .before .before .before .before .before .before .before .before .before .before .before .before .before .before .before .before .before .args in
-    c .before .before .before .before .before .before .heard-once .ensures ∙ heard-once-by (now (a .input)) _ (rw (c .before .before .before .before .before .before .before .before .before .before .before .walk-in .ensures) at (c .before .before .before .before .before .before .before .before .before .before .if1 .left))
+    let before : Feeding = feeding (a .f) (now (a .links)) (now (a .rows)) (now (a .out)) in
+    c .before .before .before .before .before .before .heard-once .ensures ∙ heard-once-by (now (a .input)) before (rw (c .before .before .before .before .before .before .before .before .before .before .before .walk-in .ensures) at (c .before .before .before .before .before .before .before .before .before .before .if1 .left))
 
 pub fed-once-spec : {M : Type 1} → statement M
 fed-once-spec =

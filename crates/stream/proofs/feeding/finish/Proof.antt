@@ -1,8 +1,9 @@
 -- `stream::finish` meets its contract. Assumes nothing.
-use denote.Ref.{now}
+use Rattle.stream.proofs.Phases.{spoken-is}
 use Rattle.stream.proofs.Numbered.{turned-down, taken-in}
-use Rattle.stream.specs.Feeding.{waits, following, piece, finishRule}
-use mathlib.Core.Path.{ap, _∙_}
+use Rattle.stream.specs.Feeding.{waits, piece, finishRule}
+use mathlib.Core.Path.{ap}
+use denote.Ref.{now}
 use borrow.Author.Needs.{needs}
 use Rattle.stream.proofs.feeding.finish.Statement.{statement}
 use Rattle.stream.proofs.feeding.finish.Tie as tie
@@ -36,7 +37,7 @@ unfolding finishRule waits
 returns-2 c =
     let a = c .before .before .before .before .before .before .before .before .before .before .before .args in
     taken-in (record { links = now (a .links); rows = now (a .rows); stream = a .s }) (now (a .out)) _ _ _ (c .before .before .before .before .before .before .before .feed-number .ensures) (c .before .before .before .before .before .before .if1 .left) _
-    (rw (c .piece .ensures) (ap (piece 0) (c .before .before .before .spoken .ensures ∙ ap (following 0 _ 0) (c .before .before .before .before .before .ended .ensures))))
+    (rw (c .piece .ensures) (ap (piece 0) (spoken-is _ _ _ _ _ _ _ _ _ (c .before .before .before .spoken .ensures .0) (c .before .before .before .spoken .ensures .1) (c .before .before .before .before .before .ended .ensures))))
 
 pub finish-spec : {M : Type 1} → statement M
 finish-spec =

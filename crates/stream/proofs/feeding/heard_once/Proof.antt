@@ -1,6 +1,5 @@
 -- `stream::heard_once` meets its contract. Assumes nothing.
-use mathlib.Core.Path.{ap, _∙_}
-use Rattle.stream.specs.Feeding.{following}
+use Rattle.stream.proofs.Phases.{spoken-is}
 use borrow.Author.Needs.{needs}
 use Rattle.stream.proofs.feeding.heard_once.Statement.{statement}
 use Rattle.stream.proofs.feeding.heard_once.Tie as tie
@@ -27,7 +26,7 @@ same-length-3 : tie.Need-same-length-3
 same-length-3 c = search needs
 
 returns : tie.Need-returns
-returns c = c .before .before .spoken .ensures ∙ ap (following _ _ _) (c .before .before .before .before .before .before .before .before .before .before .heard .ensures)
+returns c = spoken-is _ _ _ _ _ _ _ _ _ (c .before .before .spoken .ensures .0) (c .before .before .spoken .ensures .1) (c .before .before .before .before .before .before .before .before .heard .ensures)
 
 pub heard-once-spec : {M : Type 1} → statement M
 heard-once-spec =

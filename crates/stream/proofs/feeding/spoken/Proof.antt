@@ -11,7 +11,7 @@ same-length : tie.Need-same-length
 same-length c = search needs
 
 returns : tie.Need-returns
-returns c = rw (c .before .before .put-reply .ensures .0, c .before .before .put-reply .ensures .1) refl
+returns c = (rw (c .before .before .put-reply .ensures .0) refl, c .before .before .put-reply .ensures .1)
 
 pub spoken-spec : {M : Type 1} → statement M
 spoken-spec = tie.close (tie.spec put-reply-requires same-length returns)
