@@ -2,7 +2,7 @@
  *
  * C99, and C++11 takes it too. The archive is what `rt staticlib hop_c` writes, for x86-64 Linux. It needs no other library, uses no memory but
  * the stack and what is lent, and keeps nothing between calls. This file and the archive go together: where struct hop_answer grows, HOP_LAYOUT
- * is another number, and a caller is compiled anew.
+ * is another number, and a caller is compiled anew. hop_layout tells the archive's number: ask it before any other call.
  *
  * WHAT IS LENT. Every call is lent two tables: four link words and one row of eight words for each slot, the same number of slots in both, from 1 to
  * HOP_LIMIT. The header, used and live, goes in by value, and each answer has the header for the next call. A key is a slot index and a version.
@@ -83,6 +83,9 @@ static_assert(sizeof(struct hop_answer) == 17 * sizeof(uint32_t), "seventeen wor
 #elif defined(__STDC_VERSION__) && __STDC_VERSION__ >= 201112L
 _Static_assert(sizeof(struct hop_answer) == 17 * sizeof(uint32_t), "seventeen words, with no gap");
 #endif
+
+/* The version of struct hop_answer that the archive has. Where it is not HOP_LAYOUT, no other function may be called. */
+uint32_t hop_layout(void);
 
 /* Makes an empty map of what is lent. The header given is not looked at: any will do.
  * Done. Refused: HOP_SHAPE, for the lengths of the tables alone. */

@@ -161,6 +161,10 @@ int main(void)
     struct hop_key first, second, third, again;
     struct hop_answer answer;
 
+    if (hop_layout() != HOP_LAYOUT) {
+        printf("the archive has layout %" PRIu32 ", and not %u: compile anew with its header file\n", hop_layout(), HOP_LAYOUT);
+        return 1;
+    }
     taken("start", hop_start(LENT));
     room();
 

@@ -13,8 +13,9 @@ ghost use Rattle.rules.specs.Check.{checkRule};
 ghost use Rattle.rules.specs.Clear.{clearRule};
 ghost use Rattle.rules.specs.Retain.{retainRule};
 ghost use Rattle.rules.specs.Rebuild.{rebuildRule};
-ghost use Rattle.hop_c.specs.Surface.{surfaced, flattened, keyNumberRule};
+ghost use Rattle.hop_c.specs.Surface.{layout, surfaced, flattened, keyNumberRule};
 use answer::Answer;
+use answer::LAYOUT;
 use answer::no_row;
 use answer::of_clear;
 use answer::of_count;
@@ -25,6 +26,14 @@ use answer::of_number;
 use rules::Cursor;
 use rules::Header;
 use rules::Key;
+
+// The version of the answer's layout in this archive: a caller compares it with the header file's before any other call.
+#[no_mangle]
+pub extern "C" fn hop_layout() -> u32
+    ensures { λ r. ⌜ r ≡ layout ⌝ }
+{
+    LAYOUT
+}
 
 // Makes an empty map of what is lent.
 #[no_mangle]
