@@ -9,9 +9,9 @@ use denote.Ref.{RefT}
 use lib.Dec.{eqb}
 use borrow.Author.Tests.{eqb-true}
 use Rattle.rules.specs.Choice.{pick}
-use Rattle.rules.specs.Values.{Kind, gives, ends, refuses, Values, ofKey, ofHop, ofDrain, ofClear, ofCount, ofNumber, done, refused, Outcome, plain, numbered, inserted, removed, hopped, drained, cleared, retained, roomed}
+use Rattle.rules.specs.Values.{Kind, gives, ends, refuses, Values, ofKey, ofHop, ofDrain, ofClear, ofCount, ofNumber, done, refused, Outcome, plain, numbered, inserted, removed, shown, hopped, drained, cleared, retained, roomed}
 use Rattle.rules.specs.Start.{startRule, roomRule}
-use Rattle.rules.specs.Access.{keyNumber, replaceRule, RowPart}
+use Rattle.rules.specs.Access.{keyNumber, replaceRule, lookRowRule, RowPart}
 use Rattle.rules.specs.Insert.{insertRule}
 use Rattle.rules.specs.Remove.{removeAt, removeRule}
 use Rattle.rules.specs.Hop.{hopFrom, hopRule}
@@ -35,6 +35,7 @@ use Rattle.rules.specs.declared.Drained.{Drained}
 use Rattle.rules.specs.declared.Cleared.{Cleared}
 use Rattle.rules.specs.declared.Retained.{Retained}
 use Rattle.rules.specs.declared.Roomed.{Roomed}
+use Rattle.rules.specs.declared.steps.Shown.{Shown}
 use Rattle.rules.proofs.Choice.{by-test}
 
 -- a struct can be read back from the outcome that it stands for beside the tables
@@ -144,6 +145,12 @@ removed-readable =
     with-row ofKey keyOf key-back (λ x. x .answer) (λ x. x .header) (λ x. x .row)
     (λ a w hd. record { answer = a; row = w; header = hd }) (λ x. refl)
 
+-- a look by value
+pub shown-readable : Readable Shown shown
+shown-readable =
+    with-row ofKey keyOf key-back (λ x. x .answer) (λ x. x .header) (λ x. x .row)
+    (λ a w hd. record { answer = a; row = w; header = hd }) (λ x. refl)
+
 -- the hop step
 pub hopped-readable : Readable Hopped hopped
 hopped-readable =
@@ -219,6 +226,9 @@ look-settled l r hd k x y p q = (p .words ∙ sym (q .words), p .place ∙ sym (
 -- and of the parts of calls that are public in their crates
 pub remove-at-settled : (l r : List ℕ) (hd : Header) (q : ℕ) → OneOutcome removed (removeAt l r hd q)
 remove-at-settled l r hd q = settled removed removed-readable (removeAt l r hd q)
+
+pub look-row-settled : (l r : List ℕ) (hd : Header) (k : Key) → OneOutcome shown (lookRowRule l r hd k)
+look-row-settled l r hd k = settled shown shown-readable (lookRowRule l r hd k)
 
 pub hop-from-settled : (l : List ℕ) (hd : Header) (c : ℕ) (x y : HopAnswer) → ofHop x ≡ hopFrom l hd c → ofHop y ≡ hopFrom l hd c → x ≡ y
 hop-from-settled l hd c x y p q = sym (hop-back x) ∙ ap hopOf (p ∙ sym q) ∙ hop-back y

@@ -1,20 +1,17 @@
 -- What is said in a turn: a step of a walk always says something, and no reply is longer than the longest. Assumes nothing.
-use Prim.Native.Nat.{ℕ, _+_, _*_, _≤_, _<_}
+use Prim.Native.Nat.{ℕ, _+_, _≤_, _<_}
 use mathlib.Core.List.{List}
-use mathlib.Core.Path.{_≡_, refl}
+use mathlib.Core.Path.{refl}
 use native.Mathlib.Omega.{arith}
-use lib.ListN.{length, length-take, length-drop}
-use lib.Dec.{eqb, ltb}
-use borrow.Author.Tests.{leb-true}
-use Rattle.rules.specs.Choice.{both}
-use Rattle.rules.specs.Words.{rowWords, rowWithin, zeroRow, rowAt}
-use Rattle.rules.specs.Values.{Kind, gives, ends, refuses, Values, Outcome, unless}
+use lib.ListN.{length}
+use lib.Dec.{ltb}
+use Rattle.rules.specs.Words.{zeroRow}
+use Rattle.rules.specs.Values.{Kind, gives, ends, refuses, Values, Outcome}
 use Rattle.rules.specs.Refusals.{brokenStream}
 use Rattle.rules.specs.Access.{lookRowRule}
-use Rattle.rules.specs.Remove.{removeStep, removeBy, removeSlot, removeRule}
-use Rattle.rules.specs.declared.Header.{Header}
 use Rattle.rules.specs.declared.Key.{Key}
-use Rattle.rules.proofs.Choice.{by-pick, both-true}
+use Rattle.rules.proofs.Rows.{look-row-length, remove-row-length}
+use Rattle.rules.proofs.Choice.{by-pick}
 use Rattle.history.specs.Calls.{ask, hop, insert, clear}
 use Rattle.history.specs.Histories.{outcome}
 use Rattle.wire.specs.declared.Command.{Command}
@@ -64,29 +61,7 @@ key-fits v row = by (v .kind)
     by ends = omega arith
     by refuses = omega arith
 
--- the rows that a look and a removal hand out have eight words
-row-length : (r : List ℕ) (used i : ℕ) → length (rowAt r used i) ≡ rowWords
-unfolding rowAt
-row-length r used i =
-    by-pick (λ (w : List ℕ). length w ≡ rowWords) (both (ltb i used) (rowWithin r i)) _ _
-    (λ e.
-    let within = leb-true (i * rowWords + rowWords) (length r) (both-true (ltb i used) (rowWithin r i) e .1) in
-    simp (length-take, length-drop) (omega arith))
-    (λ _. refl)
-
-unless-row : (l r : List ℕ) (hd : Header) (n : ℕ) (o : Outcome) → length (o .row) ≡ rowWords → length (unless l r hd n o .row) ≡ rowWords
-unfolding unless
-unless-row l r hd n o h = by-pick (λ (w : Outcome). length (w .row) ≡ rowWords) (eqb n 0) _ _ (λ _. h) (λ _. refl)
-
-look-row : (l r : List ℕ) (hd : Header) (k : Key) → length (lookRowRule l r hd k .row) ≡ rowWords
-unfolding lookRowRule
-look-row l r hd k = unless-row l r hd _ _ (row-length r (hd .used) (k .index))
-
-remove-row : (l r : List ℕ) (hd : Header) (k : Key) → length (removeRule l r hd k .row) ≡ rowWords
-unfolding removeRule removeSlot removeBy removeStep
-remove-row l r hd k = unless-row l r hd _ _ (unless-row l r hd _ _ (row-length r (hd .used) (k .index)))
-
--- so the output has room for any turn's reply where it has room for the longest
+-- a row that is said has eight words, so the output has room for any turn's reply where it has room for the longest
 abbrev pub Fits : Turned → Type 0
 Fits t = length (replyOf t) ≤ longest
 
@@ -95,8 +70,8 @@ calm-fits s p x = saying-length x zeroRow refl
 
 command-fits : (k : Command) (s : Run) → Fits (commandTurn k s)
 command-fits Command.Insert s = key-fits (outcome (tableOf s) (insert (rowOf s)) .answer) _
-command-fits Command.Remove s = saying-length _ _ (remove-row (s .links) (s .rows) (s .stream .header) (keyOf s))
-command-fits Command.Look s = saying-length _ _ (look-row (s .links) (s .rows) (s .stream .header) (keyOf s))
+command-fits Command.Remove s = saying-length _ _ (remove-row-length (s .links) (s .rows) (s .stream .header) (keyOf s))
+command-fits Command.Look s = saying-length _ _ (look-row-length (s .links) (s .rows) (s .stream .header) (keyOf s))
 command-fits Command.Clear s = key-fits (outcome (tableOf s) clear .answer) _
 command-fits Command.Walk s = calm-fits s (Phase.Walking 0) Saying.Silent
 command-fits Command.Unknown s = calm-fits s Phase.Ended (Saying.Refused brokenStream)
@@ -121,7 +96,7 @@ walk-fits s c =
     by o (o .answer .kind)
   where
     by : (o : Outcome) (k : Kind) → Fits (walkBy s o k)
-    by o gives = saying-length _ _ (look-row (s .links) (s .rows) (s .stream .header) (o .answer .key))
+    by o gives = saying-length _ _ (look-row-length (s .links) (s .rows) (s .stream .header) (o .answer .key))
     by o ends = calm-fits s Phase.Between (sayKey (o .answer))
     by o refuses = calm-fits s Phase.Between (sayKey (o .answer))
 
