@@ -1,3 +1,2 @@
--- What the proofs of the C surface share, and what its promises settle.
+-- What the proofs of the C surface share.
 mod Surface
-pub mod Settled

@@ -1,7 +1,5 @@
 // The C surface: every call of the face as a function that C can call, over slices and numbers, each with one flat answer. include/hop.h is its
 // header file. look_mut has no function here, since no reference goes back over extern "C": hop_row of the header file stands for it.
-mod answer;
-
 ghost use mathlib.Core.Path.{_≡_};
 ghost use Rattle.rules.specs.Start.{startRule, roomRule};
 ghost use Rattle.rules.specs.Access.{lookRowRule, replaceRule};
@@ -13,16 +11,16 @@ ghost use Rattle.rules.specs.Check.{checkRule};
 ghost use Rattle.rules.specs.Clear.{clearRule};
 ghost use Rattle.rules.specs.Retain.{retainRule};
 ghost use Rattle.rules.specs.Rebuild.{rebuildRule};
-ghost use Rattle.hop_c.specs.Surface.{layout, surfaced, flattened, keyNumberRule};
-use answer::Answer;
-use answer::LAYOUT;
-use answer::no_row;
-use answer::of_clear;
-use answer::of_count;
-use answer::of_drain;
-use answer::of_hop;
-use answer::of_key;
-use answer::of_number;
+ghost use Rattle.flat.specs.Flat.{layout, surfaced, flattened, keyNumberRule};
+use flat::Answer;
+use flat::LAYOUT;
+use flat::no_row;
+use flat::of_clear;
+use flat::of_count;
+use flat::of_drain;
+use flat::of_hop;
+use flat::of_key;
+use flat::of_number;
 use rules::Cursor;
 use rules::Header;
 use rules::Key;

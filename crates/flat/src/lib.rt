@@ -2,7 +2,7 @@
 ghost use mathlib.Core.Path.{_≡_};
 ghost use Rattle.rules.specs.Words.{zeroRow};
 ghost use Rattle.rules.specs.Values.{done, visited, counted, refused, ofKey, ofHop, ofDrain, ofClear, ofCount, ofNumber};
-ghost use Rattle.hop_c.specs.Surface.{flatOf};
+ghost use Rattle.flat.specs.Flat.{flatOf};
 use rules::ClearAnswer;
 use rules::CountAnswer;
 use rules::Cursor;

@@ -1,19 +1,13 @@
--- `hop_c::answer::of_drain` meets its contract. Assumes nothing.
+-- `flat::of_key` meets its contract. Assumes nothing.
 use borrow.Author.Needs.{needs}
-use Rattle.hop_c.proofs.answer.of_drain.Statement.{statement}
-use Rattle.hop_c.proofs.answer.of_drain.Tie as tie
+use Rattle.flat.proofs.of_key.Statement.{statement}
+use Rattle.flat.proofs.of_key.Tie as tie
 
 enum-known-answer : tie.Need-enum-known-answer
 enum-known-answer c = search needs
 
 visited-requires : tie.Need-visited-requires
 visited-requires c κs = search needs
-
-enum-told : tie.Need-enum-told
-enum-told c = search needs
-
-done-requires : tie.Need-done-requires
-done-requires c κs = search needs
 
 enum-known-answer-2 : tie.Need-enum-known-answer-2
 enum-known-answer-2 c = search needs
@@ -25,21 +19,15 @@ returns : tie.Need-returns
 returns c = rw (c .before .before .answer .given .1) (c .visited .ensures)
 
 returns-2 : tie.Need-returns-2
-returns-2 c = rw (c .before .enum-told .given .1) (c .done .ensures)
+returns-2 c = rw (c .before .before .answer2 .given .1) (c .refused .ensures)
 
-returns-3 : tie.Need-returns-3
-returns-3 c = rw (c .before .before .answer2 .given .1) (c .refused .ensures)
-
-pub of-drain-spec : {M : Type 1} → statement M
-of-drain-spec =
+pub of-key-spec : {M : Type 1} → statement M
+of-key-spec =
     tie.close
     (tie.spec
     enum-known-answer
     visited-requires
-    enum-told
-    done-requires
     enum-known-answer-2
     refused-requires
     returns
-    returns-2
-    returns-3)
+    returns-2)

@@ -1,8 +1,8 @@
--- `hop_c::answer::of_number` meets its contract. Assumes nothing.
+-- `flat::of_number` meets its contract. Assumes nothing.
 use borrow.Author.Tests.{eq-eqb, ne-eqb}
 use borrow.Author.Needs.{needs}
-use Rattle.hop_c.proofs.answer.of_number.Statement.{statement}
-use Rattle.hop_c.proofs.answer.of_number.Tie as tie
+use Rattle.flat.proofs.of_number.Statement.{statement}
+use Rattle.flat.proofs.of_number.Tie as tie
 
 no-row-requires : tie.Need-no-row-requires
 no-row-requires c κs = search needs

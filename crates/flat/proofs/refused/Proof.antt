@@ -1,7 +1,7 @@
--- `hop_c::answer::refused` meets its contract. Assumes nothing.
+-- `flat::refused` meets its contract. Assumes nothing.
 use borrow.Author.Needs.{needs}
-use Rattle.hop_c.proofs.answer.refused.Statement.{statement}
-use Rattle.hop_c.proofs.answer.refused.Tie as tie
+use Rattle.flat.proofs.refused.Statement.{statement}
+use Rattle.flat.proofs.refused.Tie as tie
 
 done-requires : tie.Need-done-requires
 done-requires c κs = search needs

@@ -1,7 +1,7 @@
--- `hop_c::answer::visited` meets its contract. Assumes nothing.
+-- `flat::visited` meets its contract. Assumes nothing.
 use borrow.Author.Needs.{needs}
-use Rattle.hop_c.proofs.answer.visited.Statement.{statement}
-use Rattle.hop_c.proofs.answer.visited.Tie as tie
+use Rattle.flat.proofs.visited.Statement.{statement}
+use Rattle.flat.proofs.visited.Tie as tie
 
 done-requires : tie.Need-done-requires
 done-requires c κs = search needs

@@ -1,7 +1,7 @@
--- `hop_c::answer::counted` meets its contract. Assumes nothing.
+-- `flat::counted` meets its contract. Assumes nothing.
 use borrow.Author.Needs.{needs}
-use Rattle.hop_c.proofs.answer.counted.Statement.{statement}
-use Rattle.hop_c.proofs.answer.counted.Tie as tie
+use Rattle.flat.proofs.counted.Statement.{statement}
+use Rattle.flat.proofs.counted.Tie as tie
 
 done-requires : tie.Need-done-requires
 done-requires c κs = search needs

@@ -5,7 +5,7 @@ use Rattle.rules.specs.Values.{Kind, gives, ends, refuses, Values, ofNumber, Ou
 use Rattle.rules.specs.Access.{keyNumber}
 use Rattle.rules.specs.declared.Header.{Header}
 use Rattle.rules.specs.declared.Key.{Key}
-use Rattle.hop_c.specs.declared.answer.Answer.{Answer}
+use Rattle.flat.specs.declared.Answer.{Answer}
 
 -- the version of the struct's layout
 abbrev pub layout : ℕ

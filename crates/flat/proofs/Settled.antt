@@ -6,8 +6,8 @@ use mathlib.Core.Path.{_≡_, refl, sym, ap, _∙_}
 use lib.Dec.{eqb}
 use Rattle.rules.specs.Choice.{pick}
 use Rattle.rules.specs.Values.{Kind, gives, ends, refuses, Outcome}
-use Rattle.hop_c.specs.Surface.{kindNumber, Surfaced, surfaced, flattened}
-use Rattle.hop_c.specs.declared.answer.Answer.{Answer}
+use Rattle.flat.specs.Flat.{kindNumber, Surfaced, surfaced, flattened}
+use Rattle.flat.specs.declared.Answer.{Answer}
 
 -- the answer and both tables at exit are settled by the outcome, whatever call it is of
 pub settled : (o : Outcome) (x y : Answer) (l m r s : List ℕ) → surfaced x l r ≡ flattened o → surfaced y m s ≡ flattened o → (x ≡ y) × (l ≡ m) × (r ≡ s)

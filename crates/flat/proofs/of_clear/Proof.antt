@@ -1,7 +1,7 @@
--- `hop_c::answer::of_clear` meets its contract. Assumes nothing.
+-- `flat::of_clear` meets its contract. Assumes nothing.
 use borrow.Author.Needs.{needs}
-use Rattle.hop_c.proofs.answer.of_clear.Statement.{statement}
-use Rattle.hop_c.proofs.answer.of_clear.Tie as tie
+use Rattle.flat.proofs.of_clear.Statement.{statement}
+use Rattle.flat.proofs.of_clear.Tie as tie
 
 no-row-requires : tie.Need-no-row-requires
 no-row-requires c κs = search needs

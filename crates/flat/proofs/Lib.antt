@@ -1,0 +1,2 @@
+-- What the flat form settles.
+pub mod Settled
