@@ -1,0 +1,3 @@
+-- What the proofs of the program share.
+mod Starts
+mod Bounds

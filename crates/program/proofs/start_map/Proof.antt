@@ -1,0 +1,27 @@
+-- `program::start_map` meets its contract. Assumes nothing.
+use mathlib.Core.Path.{refl}
+use Rattle.program.proofs.Starts.{starts}
+use borrow.Author.Needs.{needs}
+use Rattle.program.proofs.start_map.Statement.{statement}
+use Rattle.program.proofs.start_map.Tie as tie
+
+start-requires : tie.Need-start-requires
+start-requires c κs = search needs
+
+opened-requires : tie.Need-opened-requires
+opened-requires c κs = search needs
+
+same-length : tie.Need-same-length
+same-length c = search needs
+
+same-length-2 : tie.Need-same-length-2
+same-length-2 c = search needs
+
+returns : tie.Need-returns
+returns c =
+    let e = starts _ _ _ (c .before .before .before .before .before .before .before .before .before .before .pre .0) (c .before .before .before .before .before .before .before .before .before .before .pre .1) (c .before .before .before .before .before .start .result) _ _ (c .before .before .before .before .before .start .ensures) in
+    rw (c .opened .ensures, e .0, e .1) refl
+
+pub start-map-spec : {M : Type 1} → statement M
+start-map-spec =
+    tie.close (tie.spec start-requires opened-requires same-length same-length-2 returns)
