@@ -1,10 +1,11 @@
 // The command program: a command stream of any length from standard input, its replies to standard output. The map is `hop`, the stream is
 // `stream`; here is only what reads and writes. A main of Rattle hands back no exit status: what fails is said on standard error.
 ghost use mathlib.Core.Path.{_≡_};
+ghost use mathlib.Core.Bool.{true};
 ghost use Prim.Native.Nat.{_≤_};
 ghost use lib.ListN.{length};
 ghost use Rattle.stream.specs.Feeding.{feedRule, finishRule};
-ghost use Rattle.program.specs.Places.{opening, stoppedAt, Within, restOf, isEnded};
+ghost use Rattle.program.specs.Places.{opening, Within, restOf, stoppedAt, goesOn, fedTo, readTo};
 use hop::Header;
 use libc::STDERR_FILENO;
 use libc::STDIN_FILENO;
@@ -83,22 +84,24 @@ fn write_reply(out: &[u8], fed: Fed) -> bool
     write_out(out, fed.written)
 }
 
-fn is_ended(phase: Phase) -> bool
-    ensures { λ r. ⌜ r ≡ isEnded phase ⌝ }
+// Whether to go on, if the replies were written well: after the end of the stream nothing is read any more.
+fn goes_on(well: bool, phase: Phase) -> bool
+    ensures { λ r. ⌜ r ≡ goesOn well phase ⌝ }
 {
     match phase {
-        Phase::Between => false,
-        Phase::Gathering(command, got) => false,
-        Phase::Walking(cursor) => false,
-        Phase::Ended => true,
+        Phase::Between => well,
+        Phase::Gathering(command, got) => well,
+        Phase::Walking(cursor) => well,
+        Phase::Ended => false,
     }
 }
 
-// Feeds what is left of the piece, and writes what was replied. After the end of the stream nothing is read any more.
+// Feeds what is left of the piece, and writes what was replied.
 fn feed_rest(links: &mut [u32], rows: &mut [u32], input: &[u8], out: &mut [u8], p: Place) -> Place
     requires { ⌜ Within p (length (now input)) ⌝ }
     ensures { λ r. ⌜ Within r (length (now (input .entry))) ⌝ }
     ensures { λ r. ⌜ record { links = now (links .exit); rows = now (rows .exit); stream = r .stream } ≡ feedRule (record { links = now (links .entry); rows = now (rows .entry); stream = p .stream }) (restOf p (now (input .entry))) (now (out .entry)) .run ⌝ }
+    ensures { λ r. ⌜ r ≡ fedTo p (feedRule (record { links = now (links .entry); rows = now (rows .entry); stream = p .stream }) (restOf p (now (input .entry))) (now (out .entry))) (r .goes) ⌝ }
 {
     let at = p.at;
     let end = p.end;
@@ -107,7 +110,7 @@ fn feed_rest(links: &mut [u32], rows: &mut [u32], input: &[u8], out: &mut [u8], 
     let s = fed.stream;
     let phase = s.phase;
     Place {
-        goes: well && !is_ended(phase),
+        goes: goes_on(well, phase),
         waits: fed.full,
         at: at + fed.taken,
         end,
@@ -127,6 +130,7 @@ fn finish(links: &[u32], rows: &[u32], out: &mut [u8], s: Stream) -> Place
 // Reads the next piece. What was replied so far is written by now.
 fn read_piece(links: &[u32], rows: &[u32], input: &mut [u8], out: &mut [u8], s: Stream) -> Place
     ensures { λ r. ⌜ Within r (length (now (input .entry))) ⌝ }
+    ensures { λ r. ⌜ (r .goes ≡ true → r ≡ readTo (r .end) s) ⌝ }
 {
     let got = libc::read(STDIN_FILENO, input);
     if got < 0 {

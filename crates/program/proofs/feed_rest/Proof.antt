@@ -1,11 +1,14 @@
 -- `program::feed_rest` meets its contract: what is left of the piece lies in the buffer, and a feed takes no more of it and writes no more than the
 -- output holds. Assumes nothing.
-use Prim.Native.Nat.{_+_, _≤_}
-use mathlib.Core.Path.{ap}
+use Prim.Native.Nat.{_+_, _^_, _≤_, _<_}
+use mathlib.Core.Bool.{Bool}
+use mathlib.Core.Path.{ap, _∙_}
 use native.Mathlib.Omega.{arith}
 use denote.Ref.{now}
 use Rattle.stream.specs.Feeding.{Piece}
+use Rattle.program.specs.Places.{fedTo}
 use Rattle.program.proofs.Bounds.{feed-within, rest-length}
+use Rattle.program.proofs.Goes.{goes-again}
 use borrow.Author.Needs.{needs}
 use Rattle.program.proofs.feed_rest.Statement.{statement}
 use Rattle.program.proofs.feed_rest.Tie as tie
@@ -25,17 +28,20 @@ feed-requires c κs = search needs
 write-reply-requires : tie.Need-write-reply-requires
 write-reply-requires c κs = feed-within _ _ _ _ (c .before .before .before .before .before .before .before .feed .ensures) .1
 
-is-ended-requires : tie.Need-is-ended-requires
-is-ended-requires c κs = search needs
+goes-on-requires : tie.Need-goes-on-requires
+goes-on-requires c κs = search needs
 
 -- no more of the piece is taken than was left of it
-taken : (c : tie.Joined1) → c .before .before .before .before .before .before .before .before .before .before .before .before .before .before .before .before .before .before .before .before .args .p .at + c .before .before .before .before .before .before .before .before .before .before .feed .result .taken ≤ c .before .before .before .before .before .before .before .before .before .before .before .before .before .before .before .before .before .before .before .before .args .p .end
+taken : (c : tie.After-struct-known) → c .before .before .before .before .before .before .before .before .before .before .before .before .before .before .before .before .before .before .before .before .args .p .at + c .before .before .before .before .before .before .before .before .before .before .before .feed .result .taken ≤ c .before .before .before .before .before .before .before .before .before .before .before .before .before .before .before .before .before .before .before .before .args .p .end
 taken c =
     let x = c .before .before .before .before .before .before .before .before .before .before .before .before .before .before .before .before .before .before .before .before in
-    omega (arith, feed-within _ _ _ _ (c .before .before .before .before .before .before .before .before .before .before .feed .ensures) .0, rest-length (now (x .args .input)) (x .args .p .at) (x .args .p .end) (x .pre .1), x .pre .0)
+    omega (arith, feed-within _ _ _ _ (c .before .before .before .before .before .before .before .before .before .before .before .feed .ensures) .0, rest-length (now (x .args .input)) (x .args .p .at) (x .args .p .end) (x .pre .1), x .pre .0)
 
-add-t35 : tie.Need-add-t35
-add-t35 c = omega (arith, taken c, c .before .before .before .before .before .before .before .before .before .before .before .before .before .before .before .before .before .before .before .before .pre .1)
+end-fits : (x : tie.Start) → x .args .p .end < 2 ^ 64
+end-fits x = omega arith
+
+add-t17 : tie.Need-add-t17
+add-t17 c = omega (arith, taken c, end-fits (c .before .before .before .before .before .before .before .before .before .before .before .before .before .before .before .before .before .before .before .before))
 
 same-length : tie.Need-same-length
 same-length c = search needs
@@ -47,7 +53,18 @@ same-length-3 : tie.Need-same-length-3
 same-length-3 c = search needs
 
 returns : tie.Need-returns
-returns c = ((taken c, c .before .before .before .before .before .before .before .before .before .before .before .before .before .before .before .before .before .before .before .before .pre .1), ap (λ (x : Piece). x .run) (c .before .before .before .before .before .before .before .before .before .before .feed .ensures))
+returns c =
+    let p = c .before .before .before .before .before .before .before .before .before .before .before .before .before .before .before .before .before .before .before .before .args .p in
+    let k = c .before .before .before .before .before .before .before .before .before .before .before .feed in
+    let g = c .before .goes-on in
+    let again = goes-again (g .result) _ (k .result .stream .phase) (g .ensures) in (
+      (taken c, c .before .before .before .before .before .before .before .before .before .before .before .before .before .before .before .before .before .before .before .before .pre .1),
+      (
+        ap (λ (x : Piece). x .run) (k .ensures),
+        ap (λ (b : Bool). record { goes = b; waits = k .result .full; at = p .at + k .result .taken; end = p .end; stream = k .result .stream }) again
+            ∙ ap (λ (x : Piece). fedTo p x (g .result)) (k .ensures),
+      ),
+    )
 
 pub feed-rest-spec : {M : Type 1} → statement M
 feed-rest-spec =
@@ -58,8 +75,8 @@ feed-rest-spec =
     part-feed-end
     feed-requires
     write-reply-requires
-    is-ended-requires
-    add-t35
+    goes-on-requires
+    add-t17
     same-length
     same-length-2
     same-length-3

@@ -1,5 +1,6 @@
 -- `program::read_piece` meets its contract. Assumes nothing.
-use native.Mathlib.Omega.{arith}
+use mathlib.Core.Path.{refl}
+use Rattle.program.proofs.Goes.{stops}
 use borrow.Author.Needs.{needs}
 use Rattle.program.proofs.read_piece.Statement.{statement}
 use Rattle.program.proofs.read_piece.Tie as tie
@@ -20,7 +21,7 @@ same-length : tie.Need-same-length
 same-length c = search needs
 
 returns : tie.Need-returns
-returns c = rw (c .stopped .ensures) (omega arith, omega arith)
+returns c = stops _ _ _ _ (c .stopped .ensures)
 
 finish-requires : tie.Need-finish-requires
 finish-requires c κs = search needs
@@ -32,7 +33,7 @@ same-length-3 : tie.Need-same-length-3
 same-length-3 c = search needs
 
 returns-2 : tie.Need-returns-2
-returns-2 c = rw (c .before .before .finish .ensures) (omega arith, omega arith)
+returns-2 c = stops _ _ _ _ (c .before .before .finish .ensures)
 
 count-requires : tie.Need-count-requires
 count-requires c κs = search needs
@@ -41,7 +42,7 @@ same-length-4 : tie.Need-same-length-4
 same-length-4 c = search needs
 
 returns-3 : tie.Need-returns-3
-returns-3 c = search needs
+returns-3 c = (search needs, λ _. refl)
 
 pub read-piece-spec : {M : Type 1} → statement M
 read-piece-spec =
