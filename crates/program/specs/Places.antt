@@ -32,9 +32,22 @@ goesOn well (Phase.Gathering k got) = well
 goesOn well (Phase.Walking c) = well
 goesOn well Phase.Ended = false
 
+-- the place, with the tables and the output beside it
+pub record Standing : Type 0 where
+  pub place : Place
+  pub links : List ℕ
+  pub rows : List ℕ
+  pub out : List ℕ
+
+abbrev pub standing : Place → List ℕ → List ℕ → List ℕ → Standing
+standing p l r out = record { place = p; links = l; rows = r; out = out }
+
 -- after a piece was fed, and its replies written well or not: what is taken of it is past, and it waits where the output was full
-abbrev pub fedTo : Place → Piece → Bool → Place
-fedTo p x well = record { goes = goesOn well (x .run .stream .phase); waits = x .full; at = p .at + x .taken; end = p .end; stream = x .run .stream }
+abbrev pub fedTo : Place → Piece → Bool → Standing
+fedTo p x well =
+    let s = x .run in
+    let place : Place = record { goes = goesOn well (s .stream .phase); waits = x .full; at = p .at + x .taken; end = p .end; stream = s .stream } in
+    standing place (s .links) (s .rows) (x .out)
 
 -- a piece of so many bytes was read, and all of it is to be fed
 abbrev pub readTo : ℕ → Stream → Place

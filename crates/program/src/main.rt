@@ -5,7 +5,7 @@ ghost use mathlib.Core.Bool.{true};
 ghost use Prim.Native.Nat.{_≤_};
 ghost use lib.ListN.{length};
 ghost use Rattle.stream.specs.Feeding.{feedRule, finishRule};
-ghost use Rattle.program.specs.Places.{opening, Within, restOf, stoppedAt, goesOn, fedTo, readTo};
+ghost use Rattle.program.specs.Places.{opening, Within, restOf, standing, stoppedAt, goesOn, fedTo, readTo};
 use hop::Header;
 use libc::STDERR_FILENO;
 use libc::STDIN_FILENO;
@@ -70,7 +70,7 @@ fn write_out(out: &[u8], n: usize) -> bool
     well
 }
 
-// Writes what was replied, and answers whether that went well. No piece is refused: a stream that was opened feeds on.
+// Writes what was replied, and answers whether that went well. No piece is refused (never-refused, of the laws of `stream`).
 fn write_reply(out: &[u8], fed: Fed) -> bool
     requires { ⌜ fed .written ≤ length (now out) ⌝ }
 {
@@ -100,8 +100,7 @@ fn goes_on(well: bool, phase: Phase) -> bool
 fn feed_rest(links: &mut [u32], rows: &mut [u32], input: &[u8], out: &mut [u8], p: Place) -> Place
     requires { ⌜ Within p (length (now input)) ⌝ }
     ensures { λ r. ⌜ Within r (length (now (input .entry))) ⌝ }
-    ensures { λ r. ⌜ record { links = now (links .exit); rows = now (rows .exit); stream = r .stream } ≡ feedRule (record { links = now (links .entry); rows = now (rows .entry); stream = p .stream }) (restOf p (now (input .entry))) (now (out .entry)) .run ⌝ }
-    ensures { λ r. ⌜ r ≡ fedTo p (feedRule (record { links = now (links .entry); rows = now (rows .entry); stream = p .stream }) (restOf p (now (input .entry))) (now (out .entry))) (r .goes) ⌝ }
+    ensures { λ r. ⌜ standing r (now (links .exit)) (now (rows .exit)) (now (out .exit)) ≡ fedTo p (feedRule (record { links = now (links .entry); rows = now (rows .entry); stream = p .stream }) (restOf p (now (input .entry))) (now (out .entry))) (r .goes) ⌝ }
 {
     let at = p.at;
     let end = p.end;

@@ -1,14 +1,10 @@
 -- `program::feed_rest` meets its contract: what is left of the piece lies in the buffer, and a feed takes no more of it and writes no more than the
 -- output holds. Assumes nothing.
 use Prim.Native.Nat.{_+_, _^_, _≤_, _<_}
-use mathlib.Core.Bool.{Bool}
-use mathlib.Core.Path.{ap, _∙_}
 use native.Mathlib.Omega.{arith}
 use denote.Ref.{now}
-use Rattle.stream.specs.Feeding.{Piece}
-use Rattle.program.specs.Places.{fedTo}
 use Rattle.program.proofs.Bounds.{feed-within, rest-length}
-use Rattle.program.proofs.Goes.{goes-again}
+use Rattle.program.proofs.Goes.{fed-place}
 use borrow.Author.Needs.{needs}
 use Rattle.program.proofs.feed_rest.Statement.{statement}
 use Rattle.program.proofs.feed_rest.Tie as tie
@@ -54,17 +50,8 @@ same-length-3 c = search needs
 
 returns : tie.Need-returns
 returns c =
-    let p = c .before .before .before .before .before .before .before .before .before .before .before .before .before .before .before .before .before .before .before .before .args .p in
-    let k = c .before .before .before .before .before .before .before .before .before .before .before .feed in
-    let g = c .before .goes-on in
-    let again = goes-again (g .result) _ (k .result .stream .phase) (g .ensures) in (
-      (taken c, c .before .before .before .before .before .before .before .before .before .before .before .before .before .before .before .before .before .before .before .before .pre .1),
-      (
-        ap (λ (x : Piece). x .run) (k .ensures),
-        ap (λ (b : Bool). record { goes = b; waits = k .result .full; at = p .at + k .result .taken; end = p .end; stream = k .result .stream }) again
-            ∙ ap (λ (x : Piece). fedTo p x (g .result)) (k .ensures),
-      ),
-    )
+    let x = c .before .before .before .before .before .before .before .before .before .before .before .before .before .before .before .before .before .before .before .before in
+    ((taken c, x .pre .1), fed-place (x .args .p) _ _ _ _ (c .before .goes-on .ensures) (c .before .before .before .before .before .before .before .before .before .before .before .feed .ensures))
 
 pub feed-rest-spec : {M : Type 1} → statement M
 feed-rest-spec =
