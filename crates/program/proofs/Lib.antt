@@ -1,4 +1,4 @@
 -- What the proofs of the program share.
 mod Starts
-mod Bounds
+mod Rest
 mod Goes

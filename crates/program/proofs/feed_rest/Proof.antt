@@ -3,7 +3,8 @@
 use Prim.Native.Nat.{_+_, _^_, _≤_, _<_}
 use native.Mathlib.Omega.{arith}
 use denote.Ref.{now}
-use Rattle.program.proofs.Bounds.{feed-within, rest-length}
+use Rattle.course.proofs.Bounds.{feed-within}
+use Rattle.program.proofs.Rest.{rest-length}
 use Rattle.program.proofs.Goes.{fed-place}
 use borrow.Author.Needs.{needs}
 use Rattle.program.proofs.feed_rest.Statement.{statement}

@@ -2,7 +2,7 @@
 use mathlib.Core.Path.{ap, _∙_}
 use Rattle.stream.specs.Feeding.{Piece}
 use Rattle.program.specs.Places.{stoppedAt}
-use Rattle.program.proofs.Bounds.{finish-within}
+use Rattle.course.proofs.Bounds.{finish-within}
 use borrow.Author.Needs.{needs}
 use Rattle.program.proofs.finish.Statement.{statement}
 use Rattle.program.proofs.finish.Tie as tie

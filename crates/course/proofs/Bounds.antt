@@ -1,27 +1,27 @@
 -- A feed takes no more than its piece has and writes no more than its output holds, refused or not; and so the end of the input. Assumes nothing.
-use Prim.Native.Nat.{ℕ, _+_, _-_, _≤_}
+use Prim.Native.Nat.{ℕ, _+_, _≤_}
 use mathlib.Core.List.{List}
 use mathlib.Core.Path.{_≡_, refl, sym, _∙_, subst}
 use native.Mathlib.Omega.{arith}
-use lib.ListN.{length, getD, take, drop, length-take, length-drop}
+use lib.ListN.{length, getD}
 use lib.Dec.{eqb}
 use Rattle.rules.proofs.Choice.{by-pick}
-use Rattle.wire.specs.Replies.{sayingBytes, longest, fits, repliedTo}
+use Rattle.wire.specs.Replies.{longest, fits, repliedTo}
+use Rattle.wire.proofs.Output.{replied-keeps, fits-room}
 use Rattle.commands.specs.Turns.{Run}
 use Rattle.commands.specs.declared.Phase.{Phase}
-use Rattle.stream.specs.Heard.{endedIn}
-use Rattle.stream.specs.Feeding.{Feeding, Piece, phaseOf, fedIn, fedOnce, going, fedWhole, begun, feedNumber, feedRule, finishRule}
-use Rattle.stream.specs.Course.{replyOf}
+use Rattle.hearing.specs.Heard.{endedIn}
+use Rattle.stream.specs.Feeding.{replyOf, Feeding, Piece, phaseOf, fedIn, fedOnce, going, fedWhole, begun, feedNumber, feedRule, finishRule}
 use Rattle.stream.proofs.Repeats.{kept}
-use Rattle.stream.proofs.Spoken.{Fits, heard-fits, walk-fits}
-use Rattle.stream.proofs.Turns.{same-length, room, turn-length}
-use Rattle.stream.proofs.FedTurns.{whole-fed}
+use Rattle.stream.proofs.Spoken.{heard-fits, walk-fits, ended-fits}
+use Rattle.stream.proofs.Turns.{turn-length}
+use Rattle.course.proofs.FedTurns.{whole-fed}
 
 -- a reply ends within the output
 reply-within : (out : List ℕ) (at : ℕ) (reply : List ℕ) → at ≤ length out → length reply ≤ longest → repliedTo out at reply ≤ length out
 unfolding repliedTo
 reply-within out at reply h j =
-    by-pick (λ (n : ℕ). n ≤ length out) (fits (length out) at) _ _ (λ e. omega (arith, room (length out) at e)) (λ _. h)
+    by-pick (λ (n : ℕ). n ≤ length out) (fits (length out) at) _ _ (λ e. omega (arith, fits-room (length out) at e)) (λ _. h)
 
 -- and so does that of a turn
 once-within : (input : List ℕ) (f : Feeding) → f .written ≤ length (f .out) → fedOnce input f .written ≤ length (f .out)
@@ -54,23 +54,12 @@ feed-within s input out p e =
     (λ _. (whole-fed s input out .within, omega (arith, whole-within s input out .0, whole-within s input out .1)))
     (λ _. (omega arith, omega arith)))
 
--- the end of the input says nothing, or refuses
-ended-fits : (p : Phase) (s : Run) → Fits (endedIn p s)
-unfolding sayingBytes
-ended-fits Phase.Between s = omega arith
-ended-fits (Phase.Gathering k got) s = omega arith
-ended-fits (Phase.Walking c) s = omega arith
-ended-fits Phase.Ended s = omega arith
-
+-- and so does the end of the input
 pub finish-within : (s : Run) (out : List ℕ) (p : Piece) → p ≡ finishRule s out → p .written ≤ length (p .out)
 unfolding finishRule
 finish-within s out p e =
     let x = endedIn (s .stream .phase) s in
     subst (λ (q : Piece). q .written ≤ length (q .out)) (sym e)
     (by-pick (λ (q : Piece). q .written ≤ length (q .out)) (eqb (feedNumber (s .links) (s .rows) (s .stream) (length out)) 0) _ _
-    (λ _. omega (arith, same-length out 0 (replyOf x), reply-within out 0 (replyOf x) (omega arith) (ended-fits (s .stream .phase) s)))
+    (λ _. omega (arith, replied-keeps out 0 (replyOf x), reply-within out 0 (replyOf x) (omega arith) (ended-fits (s .stream .phase) s)))
     (λ _. omega arith))
-
--- the rest of a piece is as long as its two ends say
-pub rest-length : (input : List ℕ) (at end : ℕ) → end ≤ length input → length (take (end - at) (drop at input)) ≡ end - at
-rest-length input at end h = simp (length-take, length-drop) (omega arith)
