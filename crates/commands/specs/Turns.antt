@@ -21,6 +21,10 @@ pub record Run : Type 0 where
   pub rows : List ℕ
   pub stream : Stream
 
+-- the run of a state beside tables
+abbrev pub runOf : List ℕ → List ℕ → Stream → Run
+runOf l r x = record { links = l; rows = r; stream = x }
+
 -- the tables with the header that goes with them; the key and the row that the body holds
 abbrev pub tableOf : Run → Table
 tableOf s = record { links = s .links; rows = s .rows; header = s .stream .header }
@@ -38,7 +42,7 @@ pub record Turned : Type 0 where
   pub row : List ℕ
 
 abbrev pub turned : Turn → List ℕ → List ℕ → Turned
-turned x l r = record { run = record { links = l; rows = r; stream = x .stream }; saying = x .saying; row = x .row }
+turned x l r = record { run = runOf l r (x .stream); saying = x .saying; row = x .row }
 
 -- what is said of an answer: 129 with its key or 130 with key and row, 131 where it is done, 132 with its number where it is refused
 abbrev pub saidBy : Kind → Saying → ℕ → Saying
@@ -61,14 +65,12 @@ turn body p say o =
       row = o .row;
     }
 
--- a turn without a call
+-- a turn without a call: the phase changes, and something is said or not
+abbrev pub calmly : Stream → Phase → Saying → Turn
+calmly x p said = record { stream = record { header = x .header; phase = p; body = x .body }; saying = said; row = zeroRow }
+
 abbrev pub calm : Run → Phase → Saying → Turned
-calm s p x =
-    record {
-      run = record { links = s .links; rows = s .rows; stream = record { header = s .stream .header; phase = p; body = s .stream .body } };
-      saying = x;
-      row = zeroRow;
-    }
+calm s p said = turned (calmly (s .stream) p said) (s .links) (s .rows)
 
 -- insert, 129; remove and look, 130; clear, 131; each refused, 132
 abbrev pub insertTurn : Run → Turned

@@ -1,6 +1,6 @@
 // One function for each command, and one for a step of a walk.
 ghost use mathlib.Core.Path.{_≡_};
-ghost use Rattle.commands.specs.Turns.{Run, turned, calm, insertTurn, removeTurn, showTurn, lookTurn, clearTurn, walkTurn, commandTurn};
+ghost use Rattle.commands.specs.Turns.{runOf, turned, calmly, insertTurn, removeTurn, showTurn, lookTurn, clearTurn, walkTurn, commandTurn};
 use crate::Phase;
 use crate::Stream;
 use crate::Turn;
@@ -19,8 +19,8 @@ use wire::words::key_in;
 use wire::words::row_in;
 
 // A turn without a call: the phase changes, and something is said or not.
-pub fn calm(links: &[u32], rows: &[u32], s: Stream, phase: Phase, saying: Saying) -> Turn
-    ensures { λ r. ⌜ turned r (now (links .entry)) (now (rows .entry)) ≡ calm (record { links = now (links .entry); rows = now (rows .entry); stream = s }) phase saying ⌝ }
+pub fn calm(s: Stream, phase: Phase, saying: Saying) -> Turn
+    ensures { λ r. ⌜ r ≡ calmly s phase saying ⌝ }
 {
     let header = s.header;
     let body = s.body;
@@ -36,7 +36,7 @@ pub fn calm(links: &[u32], rows: &[u32], s: Stream, phase: Phase, saying: Saying
 }
 
 pub fn insert_turn(links: &mut [u32], rows: &mut [u32], s: Stream) -> Turn
-    ensures { λ r. ⌜ turned r (now (links .exit)) (now (rows .exit)) ≡ insertTurn (record { links = now (links .entry); rows = now (rows .entry); stream = s }) ⌝ }
+    ensures { λ r. ⌜ turned r (now (links .exit)) (now (rows .exit)) ≡ insertTurn (runOf (now (links .entry)) (now (rows .entry)) s) ⌝ }
 {
     let body = s.body;
     let side = row_in(&body);
@@ -56,7 +56,7 @@ pub fn insert_turn(links: &mut [u32], rows: &mut [u32], s: Stream) -> Turn
 }
 
 pub fn remove_turn(links: &mut [u32], rows: &mut [u32], s: Stream) -> Turn
-    ensures { λ r. ⌜ turned r (now (links .exit)) (now (rows .exit)) ≡ removeTurn (record { links = now (links .entry); rows = now (rows .entry); stream = s }) ⌝ }
+    ensures { λ r. ⌜ turned r (now (links .exit)) (now (rows .exit)) ≡ removeTurn (runOf (now (links .entry)) (now (rows .entry)) s) ⌝ }
 {
     let body = s.body;
     let key = key_in(&body);
@@ -78,7 +78,7 @@ pub fn remove_turn(links: &mut [u32], rows: &mut [u32], s: Stream) -> Turn
 
 // A key and its row are shown, and the stream goes on in a phase.
 fn show_turn(links: &[u32], rows: &[u32], s: Stream, phase: Phase, key: Key) -> Turn
-    ensures { λ r. ⌜ turned r (now (links .entry)) (now (rows .entry)) ≡ showTurn (record { links = now (links .entry); rows = now (rows .entry); stream = s }) phase key ⌝ }
+    ensures { λ r. ⌜ turned r (now (links .entry)) (now (rows .entry)) ≡ showTurn (runOf (now (links .entry)) (now (rows .entry)) s) phase key ⌝ }
 {
     let body = s.body;
     let x = look_row(links, rows, s.header, key);
@@ -98,7 +98,7 @@ fn show_turn(links: &[u32], rows: &[u32], s: Stream, phase: Phase, key: Key) -> 
 }
 
 pub fn look_turn(links: &[u32], rows: &[u32], s: Stream) -> Turn
-    ensures { λ r. ⌜ turned r (now (links .entry)) (now (rows .entry)) ≡ lookTurn (record { links = now (links .entry); rows = now (rows .entry); stream = s }) ⌝ }
+    ensures { λ r. ⌜ turned r (now (links .entry)) (now (rows .entry)) ≡ lookTurn (runOf (now (links .entry)) (now (rows .entry)) s) ⌝ }
 {
     let body = s.body;
     let key = key_in(&body);
@@ -106,7 +106,7 @@ pub fn look_turn(links: &[u32], rows: &[u32], s: Stream) -> Turn
 }
 
 pub fn clear_turn(links: &mut [u32], rows: &mut [u32], s: Stream) -> Turn
-    ensures { λ r. ⌜ turned r (now (links .exit)) (now (rows .exit)) ≡ clearTurn (record { links = now (links .entry); rows = now (rows .entry); stream = s }) ⌝ }
+    ensures { λ r. ⌜ turned r (now (links .exit)) (now (rows .exit)) ≡ clearTurn (runOf (now (links .entry)) (now (rows .entry)) s) ⌝ }
 {
     let body = s.body;
     let x = hop::clear(links, rows, s.header);
@@ -126,27 +126,27 @@ pub fn clear_turn(links: &mut [u32], rows: &mut [u32], s: Stream) -> Turn
 
 // One step of a walk, from its cursor.
 pub fn walk_turn(links: &[u32], rows: &[u32], s: Stream, cursor: Cursor) -> Turn
-    ensures { λ r. ⌜ turned r (now (links .entry)) (now (rows .entry)) ≡ walkTurn (record { links = now (links .entry); rows = now (rows .entry); stream = s }) cursor ⌝ }
+    ensures { λ r. ⌜ turned r (now (links .entry)) (now (rows .entry)) ≡ walkTurn (runOf (now (links .entry)) (now (rows .entry)) s) cursor ⌝ }
 {
     let x = hop::hop_step(links, rows, s.header, cursor);
     let answer = x.answer;
     match answer {
         HopAnswer::Visited(key, next) => show_turn(links, rows, s, Phase::Walking(next), key),
-        HopAnswer::Done => calm(links, rows, s, Phase::Between, Saying::Done),
-        HopAnswer::Refused(number) => calm(links, rows, s, Phase::Between, Saying::Refused(number)),
+        HopAnswer::Done => calm(s, Phase::Between, Saying::Done),
+        HopAnswer::Refused(number) => calm(s, Phase::Between, Saying::Refused(number)),
     }
 }
 
 // A command whose body is whole.
 pub fn command_turn(links: &mut [u32], rows: &mut [u32], s: Stream, command: Command) -> Turn
-    ensures { λ r. ⌜ turned r (now (links .exit)) (now (rows .exit)) ≡ commandTurn command (record { links = now (links .entry); rows = now (rows .entry); stream = s }) ⌝ }
+    ensures { λ r. ⌜ turned r (now (links .exit)) (now (rows .exit)) ≡ commandTurn command (runOf (now (links .entry)) (now (rows .entry)) s) ⌝ }
 {
     match command {
         Command::Insert => insert_turn(links, rows, s),
         Command::Remove => remove_turn(links, rows, s),
         Command::Look => look_turn(links, rows, s),
         Command::Clear => clear_turn(links, rows, s),
-        Command::Walk => calm(links, rows, s, Phase::Walking(0), Saying::Silent),
-        Command::Unknown => calm(links, rows, s, Phase::Ended, Saying::Refused(BROKEN_STREAM)),
+        Command::Walk => calm(s, Phase::Walking(0), Saying::Silent),
+        Command::Unknown => calm(s, Phase::Ended, Saying::Refused(BROKEN_STREAM)),
     }
 }

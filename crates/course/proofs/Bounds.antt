@@ -10,7 +10,7 @@ use Rattle.wire.specs.Replies.{longest, fits, repliedTo}
 use Rattle.wire.proofs.Output.{replied-keeps, fits-room}
 use Rattle.commands.specs.Turns.{Run}
 use Rattle.commands.specs.declared.Phase.{Phase}
-use Rattle.hearing.specs.Heard.{endedIn}
+use Rattle.hearing.specs.Heard.{endedOf}
 use Rattle.stream.specs.Feeding.{replyOf, Feeding, Piece, phaseOf, fedIn, fedOnce, going, fedWhole, begun, feedNumber, feedRule, finishRule}
 use Rattle.stream.proofs.Repeats.{kept}
 use Rattle.stream.proofs.Spoken.{heard-fits, walk-fits, ended-fits}
@@ -58,8 +58,8 @@ feed-within s input out p e =
 pub finish-within : (s : Run) (out : List ℕ) (p : Piece) → p ≡ finishRule s out → p .written ≤ length (p .out)
 unfolding finishRule
 finish-within s out p e =
-    let x = endedIn (s .stream .phase) s in
+    let x = endedOf s in
     subst (λ (q : Piece). q .written ≤ length (q .out)) (sym e)
     (by-pick (λ (q : Piece). q .written ≤ length (q .out)) (eqb (feedNumber (s .links) (s .rows) (s .stream) (length out)) 0) _ _
-    (λ _. omega (arith, replied-keeps out 0 (replyOf x), reply-within out 0 (replyOf x) (omega arith) (ended-fits (s .stream .phase) s)))
+    (λ _. omega (arith, replied-keeps out 0 (replyOf x), reply-within out 0 (replyOf x) (omega arith) (ended-fits s)))
     (λ _. omega arith))

@@ -18,8 +18,8 @@ use Rattle.wire.specs.Commands.{commandOf, bodyLength}
 use Rattle.commands.specs.Turns.{Run, tableOf, keyOf, calm, commandTurn}
 use Rattle.commands.specs.declared.Phase.{Phase}
 use Rattle.hearing.specs.Heard.{gathered, withByte, heardIn, heard}
-use Rattle.course.specs.Course.{Course, standing, walks, walkedIn, walked, settled, course}
-use Rattle.course.specs.Calls.{commandCalls, gatheredCalls, heardCallsIn, heardCalls, shownCalls, stepCalls, walkCallsIn, walkCalls, settledCalls, calls}
+use Rattle.course.specs.Course.{Course, standing, walks, walkedIn, walked, walkedOut, course}
+use Rattle.course.specs.Calls.{commandCalls, gatheredCalls, heardCallsIn, heardCalls, shownCalls, stepCalls, walkCallsIn, walkCalls, walkedOutCalls, calls}
 use Rattle.stream.proofs.Repeats.{kept}
 use Rattle.course.proofs.Walks.{look-table, walk-table}
 
@@ -39,9 +39,9 @@ walked-table x = by (x .run .stream .phase)
     by (Phase.Walking c) = walk-table (x .run) c
     by Phase.Ended = refl
 
-pub settled-table : (s : Run) → tableOf (settled s .run) ≡ tableOf s
-unfolding settled
-settled-table s =
+pub walked-out-table : (s : Run) → tableOf (walkedOut s .run) ≡ tableOf s
+unfolding walkedOut
+walked-out-table s =
     kept walks walked (λ (x : Course). tableOf (x .run) ≡ tableOf s) (λ x _ e. walked-table x ∙ e) (suc (s .stream .header .used)) (standing s) refl
 
 hop-same : (t : Table) (c : ℕ) → next t (ask (hop c)) ≡ t
@@ -98,16 +98,16 @@ heard-leads s b = by (s .stream .phase)
 
 -- all the bytes lead where all the calls lead
 pub calls-lead : (s : Run) (bs : List ℕ) → tableOf (course s bs .run) ≡ after (tableOf s) (calls s bs)
-calls-lead s [] = settled-table s ∙ sym (walk-same (suc (s .stream .header .used)) s)
+calls-lead s [] = walked-out-table s ∙ sym (walk-same (suc (s .stream .header .used)) s)
 calls-lead s (b ∷ bs) =
-    let x = settled s .run in
+    let x = walkedOut s .run in
     let y = heard x b .run in
-    let settles : tableOf x ≡ after (tableOf s) (settledCalls s) = settled-table s ∙ sym (walk-same (suc (s .stream .header .used)) s) in
-    let hears : tableOf y ≡ after (tableOf s) (settledCalls s ++ heardCalls x b) =
-    heard-leads x b ∙ ap (λ (t : Table). after t (heardCalls x b)) settles ∙ sym (after-both (tableOf s) (settledCalls s) (heardCalls x b)) in
+    let settles : tableOf x ≡ after (tableOf s) (walkedOutCalls s) = walked-out-table s ∙ sym (walk-same (suc (s .stream .header .used)) s) in
+    let hears : tableOf y ≡ after (tableOf s) (walkedOutCalls s ++ heardCalls x b) =
+    heard-leads x b ∙ ap (λ (t : Table). after t (heardCalls x b)) settles ∙ sym (after-both (tableOf s) (walkedOutCalls s) (heardCalls x b)) in
     calls-lead y bs
     ∙ ap (λ (t : Table). after t (calls y bs)) hears
-    ∙ sym (after-both (tableOf s) (settledCalls s ++ heardCalls x b) (calls y bs))
+    ∙ sym (after-both (tableOf s) (walkedOutCalls s ++ heardCalls x b) (calls y bs))
 
 -- none of the calls begins a history, on whatever table they are made
 abbrev GoOn : List Call → Type 0
@@ -163,9 +163,9 @@ heard-goes s b = by (s .stream .phase)
 calls-go : (s : Run) (bs : List ℕ) → GoOn (calls s bs)
 calls-go s [] = walk-goes (suc (s .stream .header .used)) s
 calls-go s (b ∷ bs) =
-    let x = settled s .run in
-    both-go (settledCalls s ++ heardCalls x b) (calls (heard x b .run) bs)
-    (both-go (settledCalls s) (heardCalls x b) (walk-goes (suc (s .stream .header .used)) s) (heard-goes x b))
+    let x = walkedOut s .run in
+    both-go (walkedOutCalls s ++ heardCalls x b) (calls (heard x b .run) bs)
+    (both-go (walkedOutCalls s) (heardCalls x b) (walk-goes (suc (s .stream .header .used)) s) (heard-goes x b))
     (calls-go (heard x b .run) bs)
 
 pub calls-within : (s : Run) (bs : List ℕ) → Within (tableOf s) (calls s bs)

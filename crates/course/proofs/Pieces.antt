@@ -9,14 +9,14 @@ use Rattle.hearing.specs.Heard.{walksIn}
 use Rattle.stream.specs.Feeding.{feedRule}
 use Rattle.course.specs.Course.{Course, preceded, course}
 use Rattle.course.specs.Pieces.{takenOf, writtenOf, Pieces, none, more}
-use Rattle.course.proofs.Walks.{settled-still}
+use Rattle.course.proofs.Walks.{walked-out-still}
 use Rattle.course.proofs.Courses.{before-before}
 use Rattle.course.proofs.FedTurns.{whole-fed, unrefused}
 
 -- one piece: what it took leads to what it wrote and to its run, whatever comes after
-pub piece : (s : Run) (input out : List ℕ) → let p = feedRule s input out in p .number ≡ 0 → (rest : List ℕ) →
+pub fed-piece : (s : Run) (input out : List ℕ) → let p = feedRule s input out in p .number ≡ 0 → (rest : List ℕ) →
     course s (takenOf input p ++ rest) ≡ preceded (writtenOf p) (course (p .run) rest)
-piece s input out e rest = rw (unrefused s input out e .1) (whole-fed s input out .course-is rest)
+fed-piece s input out e rest = rw (unrefused s input out e .1) (whole-fed s input out .course-is rest)
 
 -- piece after piece
 pub pieces : {s s′ : Run} {taken written : List ℕ} → Pieces s taken written s′ → (rest : List ℕ) →
@@ -25,7 +25,7 @@ pieces none rest = refl
 pieces {s} {s′} (more {taken = taken} {written = written} input out e ps) rest =
     let p = feedRule s input out in
     ap (course s) (append-assoc (takenOf input p) taken rest)
-    ∙ piece s input out e (taken ++ rest)
+    ∙ fed-piece s input out e (taken ++ rest)
     ∙ ap (preceded (writtenOf p)) (pieces ps rest)
     ∙ before-before (writtenOf p) written (course s′ rest)
 
@@ -35,7 +35,7 @@ pub whole-course : {s s′ : Run} {taken written : List ℕ} → Pieces s taken 
 whole-course {s} {s′} {taken} {written} ps still =
     ap (course s) (sym (append-nil taken))
     ∙ pieces ps []
-    ∙ ap (preceded written) (settled-still s′ still)
+    ∙ ap (preceded written) (walked-out-still s′ still)
     ∙ ap (λ (xs : List ℕ). record { run = s′; said = xs }) (append-nil written)
 
 -- two ways of cutting the same bytes

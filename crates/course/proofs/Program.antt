@@ -36,7 +36,7 @@ use Rattle.course.specs.Pieces.{Pieces, none, more}
 use Rattle.course.specs.Calls.{calls}
 use Rattle.course.proofs.Pieces.{pieces}
 use Rattle.course.proofs.Possible.{feed-possible}
-use Rattle.course.proofs.Histories.{calls-lead, calls-within, settled-table}
+use Rattle.course.proofs.Histories.{calls-lead, calls-within, walked-out-table}
 
 -- the table that a start leaves, where it is not refused, is one that a history begins with
 pub start-begins : (l r : List ℕ) (hd : Header) → lentNumber (length l) (length r) ≡ 0 → Begun (left (startRule l r hd))
@@ -107,7 +107,7 @@ pieces-table : {s s′ : Run} {taken written : List ℕ} → Pieces s taken writ
 pieces-table {s} {s′} {taken} ps =
     ap (λ (xs : List ℕ). tableOf (course s xs .run)) (sym (append-nil taken))
     ∙ ap (λ (x : Course). tableOf (x .run)) (pieces ps [])
-    ∙ settled-table s′
+    ∙ walked-out-table s′
 
 -- a feed is taken where the table has its shape, the output has room and the state is possible
 feeds : (s : Run) (input out : List ℕ) → shapeNumber (s .links) (s .rows) (s .stream .header) ≡ 0 → longest ≤ length out →

@@ -52,18 +52,18 @@ module _ (s : Run) (input out : List ℕ) where
     by-turns P p = subst P (sym (unrefused s input out e .1)) p
 
     -- not since the output is full: the piece is taken whole, and the last walk is at its end
-    pub taken-whole : let p = feedRule s input out in p .full ≡ false → p .run .stream .phase ≢ Phase.Ended →
+    pub taken-whole : let p = feedRule s input out in p .waits ≡ false → p .run .stream .phase ≢ Phase.Ended →
         (p .taken ≡ length input) × (walksIn (p .run .stream .phase) ≡ false)
     unfolding waits
     taken-whole =
-        by-turns (λ (p : Piece). p .full ≡ false → p .run .stream .phase ≢ Phase.Ended → (p .taken ≡ length input) × (walksIn (p .run .stream .phase) ≡ false))
+        by-turns (λ (p : Piece). p .waits ≡ false → p .run .stream .phase ≢ Phase.Ended → (p .taken ≡ length input) × (walksIn (p .run .stream .phase) ≡ false))
         (nothing-left (length input) (f .taken) (phaseOf f) (whole-fed s input out .within))
 
     -- since it is full: less room is left than the longest reply needs
-    pub too-full : let p = feedRule s input out in p .full ≡ true → length out < p .written + longest
+    pub too-full : let p = feedRule s input out in p .waits ≡ true → length out < p .written + longest
     unfolding going fits
     too-full =
-        by-turns (λ (p : Piece). p .full ≡ true → length out < p .written + longest)
+        by-turns (λ (p : Piece). p .waits ≡ true → length out < p .written + longest)
         (λ h.
         let none-fits = first-fails (fits (length (f .out)) (f .written)) (waits (length input) f) (fed-to-end input (begun s out)) h in
         let less = leb-false (f .written + longest) (length (f .out)) none-fits in

@@ -19,14 +19,14 @@ use Rattle.wire.specs.Replies.{sayingBytes, fits, replied, repliedTo}
 use Rattle.hearing.specs.Heard.{heard, possible}
 use Rattle.stream.specs.Repeats.{while}
 use Rattle.stream.specs.Feeding.{fedOnce, waits, going, fedWhole, feedNumber, feedRule}
-use Rattle.course.specs.Course.{walked, settled}
+use Rattle.course.specs.Course.{walked, walkedOut}
 use Rattle.course.specs.Day.{Told}
 
 tried : Told
-unfolding allBelow someBelow countBelow alike linkAt setLink newSlot rowAt setRow vacantAt occupiedAt unless _▸_ lentNumber headerNumber shapeNumber sideNumber zeroNumber liveKey liveNumber entryNumber sideEntryNumber startRule keyNumber lookRowRule runNumber takeNumber insertNumber takeNew takeSlot takeLast takeBack shortened insertStep insertBy insertRule apartNumber leftNumber rightNumber removeNumber setApart joinRight joinLeft joinBoth freed removeStep removeBy removeSlot slotNumber removeAt removeRule pastFront isFront isBack frontOf hopNumber hopAnswer hopFrom hopRule drainRule endsTest circleTest soundTest soundNumber drainTimes clearRule commandOf bytesOf wordsBytes keyBytes wordAt keyIn rowIn sayingBytes fits replied repliedTo heard possible while fedOnce waits going fedWhole feedNumber feedRule walked settled
+unfolding allBelow someBelow countBelow alike linkAt setLink newSlot rowAt setRow vacantAt occupiedAt unless _▸_ lentNumber headerNumber shapeNumber sideNumber zeroNumber liveKey liveNumber entryNumber sideEntryNumber startRule keyNumber lookRowRule runNumber takeNumber insertNumber takeNew takeSlot takeLast takeBack shortened insertStep insertBy insertRule apartNumber leftNumber rightNumber removeNumber setApart joinRight joinLeft joinBoth freed removeStep removeBy removeSlot slotNumber removeAt removeRule pastFront isFront isBack frontOf hopNumber hopAnswer hopFrom hopRule drainRule endsTest circleTest soundTest soundNumber drainTimes clearRule commandOf bytesOf wordsBytes keyBytes wordAt keyIn rowIn sayingBytes fits replied repliedTo heard possible while fedOnce waits going fedWhole feedNumber feedRule walked walkedOut
 tried =
     record {
-      whole-run = refl;
+      document-01 = refl;
       day-replies = refl;
       kind-0 = refl;
       kind-6 = refl;
@@ -35,6 +35,15 @@ tried =
       nothing = refl;
       evening-taken = refl;
       evening-written = refl;
+      evening-waits = refl;
       evening-out = refl;
       evening-phase = refl;
+      last-byte-to-come = refl;
+      no-byte-to-come = refl;
+      no-body = refl;
+      no-kind = refl;
+      walk-begun = refl;
+      walk-after-slot-0 = refl;
+      walk-at-its-end = refl;
+      walk-past-used = refl;
     }

@@ -24,7 +24,7 @@ use Rattle.commands.specs.declared.Phase.{Phase}
 use Rattle.stream.specs.Feeding.{replyOf}
 use Rattle.hearing.specs.Heard.{walksIn}
 use Rattle.stream.specs.Repeats.{while}
-use Rattle.course.specs.Course.{Course, standing, preceded, walks, walkedIn, walked, settled}
+use Rattle.course.specs.Course.{Course, standing, preceded, walks, walkedIn, walked, walkedOut}
 use Rattle.stream.proofs.Repeats.{stopped, onward}
 
 -- the cursor c goes on to c′: further, past no slot that is not in use, and past slot 0
@@ -166,15 +166,15 @@ most-steps (Phase.Walking c) used = omega arith
 most-steps Phase.Ended used = omega arith
 
 -- where no walk is under way, nothing is replied
-pub settled-still : (s : Run) → walksIn (s .stream .phase) ≡ false → settled s ≡ standing s
-unfolding settled
-settled-still s h = stopped walks walked (suc (s .stream .header .used)) (standing s) h
+pub walked-out-still : (s : Run) → walksIn (s .stream .phase) ≡ false → walkedOut s ≡ standing s
+unfolding walkedOut
+walked-out-still s h = stopped walks walked (suc (s .stream .header .used)) (standing s) h
 
 -- where one is, its next step is replied to first
-pub settled-step : (s : Run) (c : ℕ) → s .stream .phase ≡ Phase.Walking c →
-    settled s ≡ preceded (replyOf (walkTurn s c)) (settled (walkTurn s c .run))
-unfolding settled walked μ
-settled-step s c e =
+pub walked-out-step : (s : Run) (c : ℕ) → s .stream .phase ≡ Phase.Walking c →
+    walkedOut s ≡ preceded (replyOf (walkTurn s c)) (walkedOut (walkTurn s c .run))
+unfolding walkedOut walked μ
+walked-out-step s c e =
     let t = walkTurn s c in
     let m = suc (t .run .stream .header .used) in
     let first : walked (standing s) ≡ preceded (replyOf t) (standing (t .run)) =

@@ -12,7 +12,7 @@ use Rattle.wire.specs.declared.Command.{Command}
 use Rattle.commands.specs.Turns.{Run, tableOf, keyOf, rowOf}
 use Rattle.commands.specs.declared.Phase.{Phase}
 use Rattle.hearing.specs.Heard.{withByte, heard}
-use Rattle.course.specs.Course.{standing, walked, settled}
+use Rattle.course.specs.Course.{standing, walked, walkedOut}
 
 -- of a command whose body is whole
 abbrev pub commandCalls : Command → Run → List Call
@@ -58,12 +58,12 @@ abbrev pub walkCalls : ℕ → Run → List Call
 walkCalls zero s = []
 walkCalls (suc n) s = walkCallsIn (s .stream .phase) s (walkCalls n (walked (standing s) .run))
 
-abbrev pub settledCalls : Run → List Call
-settledCalls s = walkCalls (suc (s .stream .header .used)) s
+abbrev pub walkedOutCalls : Run → List Call
+walkedOutCalls s = walkCalls (suc (s .stream .header .used)) s
 
 -- of bytes
 abbrev pub calls : Run → List ℕ → List Call
-calls s [] = settledCalls s
+calls s [] = walkedOutCalls s
 calls s (b ∷ bs) =
-    let t = settled s .run in
-    settledCalls s ++ heardCalls t b ++ calls (heard t b .run) bs
+    let t = walkedOut s .run in
+    walkedOutCalls s ++ heardCalls t b ++ calls (heard t b .run) bs

@@ -6,7 +6,7 @@ use Rattle.commands.specs.Turns.{Run, Turned, walkTurn}
 use Rattle.commands.specs.declared.Phase.{Phase}
 use Rattle.stream.specs.Repeats.{while}
 use Rattle.stream.specs.Feeding.{replyOf}
-use Rattle.hearing.specs.Heard.{walksIn, heard, endedIn}
+use Rattle.hearing.specs.Heard.{walksIn, heard, endedOf}
 
 -- the run so far, and all that was replied
 pub record Course : Type 0 where
@@ -18,8 +18,8 @@ abbrev pub standing : Run → Course
 standing s = record { run = s; said = [] }
 
 -- a turn after what was replied; a course after replies made before it
-abbrev pub follows : List ℕ → Turned → Course
-follows said t = record { run = t .run; said = said ++ replyOf t }
+abbrev pub spokenAfter : List ℕ → Turned → Course
+spokenAfter said t = record { run = t .run; said = said ++ replyOf t }
 
 abbrev pub preceded : List ℕ → Course → Course
 preceded said c = record { run = c .run; said = said ++ c .said }
@@ -31,21 +31,21 @@ walks c = walksIn (c .run .stream .phase)
 abbrev pub walkedIn : Phase → Course → Course
 walkedIn Phase.Between x = x
 walkedIn (Phase.Gathering k got) x = x
-walkedIn (Phase.Walking c) x = follows (x .said) (walkTurn (x .run) c)
+walkedIn (Phase.Walking c) x = spokenAfter (x .said) (walkTurn (x .run) c)
 walkedIn Phase.Ended x = x
 
 unfoldable pub walked : Course → Course
 walked x = walkedIn (x .run .stream .phase) x
 
 -- a walk to its end: its cursor rises with each step, so no more steps are to come than slots are in use, and one
-unfoldable pub settled : Run → Course
-settled s = while walks walked (suc (s .stream .header .used)) (standing s)
+unfoldable pub walkedOut : Run → Course
+walkedOut s = while walks walked (suc (s .stream .header .used)) (standing s)
 
 -- the bytes, one after the other, the walk of each to its end
 abbrev pub course : Run → List ℕ → Course
-course s [] = settled s
+course s [] = walkedOut s
 course s (b ∷ bs) =
-    let x = settled s in
+    let x = walkedOut s in
     let t = heard (x .run) b in
     preceded (x .said ++ replyOf t) (course (t .run) bs)
 
@@ -53,4 +53,4 @@ course s (b ∷ bs) =
 abbrev pub whole : Run → List ℕ → Course
 whole s bs =
     let x = course s bs in
-    follows (x .said) (endedIn (x .run .stream .phase) (x .run))
+    spokenAfter (x .said) (endedOf (x .run))

@@ -1,12 +1,15 @@
 -- A day of the stream on three slots lent, command by command with the reply beside each; and document 01's whole run. proofs/Tried has the one statement.
 use Prim.Native.Nat.{ℕ}
 use mathlib.Core.List.{List, [], _∷_, _++_}
+use mathlib.Core.Bool.{true}
 use mathlib.Core.Path.{_≡_}
 use lib.ListN.{replicate}
+use Rattle.rules.specs.Refusals.{shape}
 use Rattle.rules.specs.Start.{startRule}
-use Rattle.wire.specs.Commands.{bodyBytes}
-use Rattle.commands.specs.Turns.{Run}
+use Rattle.wire.specs.declared.Command.{Command}
+use Rattle.commands.specs.Turns.{Run, runOf}
 use Rattle.commands.specs.declared.Phase.{Phase}
+use Rattle.hearing.specs.Heard.{opened}
 use Rattle.stream.specs.Feeding.{Piece, feedRule}
 use Rattle.course.specs.Course.{course, whole}
 
@@ -14,7 +17,7 @@ use Rattle.course.specs.Course.{course, whole}
 abbrev pub morning : Run
 morning =
     let o = startRule (replicate 12 0) (replicate 24 0) (record { used = 0; live = 0 }) in
-    record { links = o .links; rows = o .rows; stream = record { header = o .header; phase = Phase.Between; body = replicate bodyBytes 0 } }
+    runOf (o .links) (o .rows) (opened (o .header))
 
 -- the bytes of a word whose low byte is n, and of a key; a row of a different byte at each place, and one of zeros
 abbrev low : ℕ → List ℕ
@@ -64,19 +67,25 @@ day =
     ∷ (5 ∷ [], 131 ∷ [])
     ∷ []
 
--- a kind that is none, and what follows it is not read; a body cut short
+-- a kind that is none, and what spokenAfter it is not read; a body cut short
 abbrev pub broken : ℕ → Said
 broken kind = (1 ∷ zeros, 129 ∷ key 1 1) ∷ (kind ∷ 4 ∷ 5 ∷ [], 132 ∷ 9 ∷ []) ∷ []
 
 abbrev pub cut : Said
 cut = (1 ∷ zeros, 129 ∷ key 1 1) ∷ (2 ∷ 1 ∷ 0 ∷ 0 ∷ 0 ∷ 1 ∷ 0 ∷ 0 ∷ [], 132 ∷ 9 ∷ []) ∷ []
 
--- the day heard, and a walk begun, with an output of fifty bytes: the first row is replied, the second waits
+-- two buoys heard, and a walk begun with an output of fifty bytes: the first row is replied, the second waits, and no byte after the walk is read
 abbrev pub evening : Piece
 evening = feedRule (course morning (heardOf (wholeRun ++ wholeRun)) .run) (5 ∷ 4 ∷ []) (replicate 50 7)
 
+-- the number of a piece whose state has this phase, and two slots in use
+abbrev pub numberIn : Phase → ℕ
+numberIn p =
+    let x = course morning (heardOf wholeRun) .run in
+    feedRule (runOf (x .links) (x .rows) (record { header = x .stream .header; phase = p; body = x .stream .body })) (4 ∷ []) (replicate 50 7) .number
+
 pub record Told : Type 0 where
-  pub whole-run : whole morning (heardOf wholeRun) .said ≡ repliedOf wholeRun
+  pub document-01 : whole morning (heardOf wholeRun) .said ≡ repliedOf wholeRun
   pub day-replies : whole morning (heardOf day) .said ≡ repliedOf day
   pub kind-0 : whole morning (heardOf (broken 0)) .said ≡ repliedOf (broken 0)
   pub kind-6 : whole morning (heardOf (broken 6)) .said ≡ repliedOf (broken 6)
@@ -85,5 +94,14 @@ pub record Told : Type 0 where
   pub nothing : whole morning [] .said ≡ []
   pub evening-taken : evening .taken ≡ 1
   pub evening-written : evening .written ≡ 41
+  pub evening-waits : evening .waits ≡ true
   pub evening-out : evening .out ≡ 130 ∷ key 1 1 ++ zeros ++ replicate 9 7
   pub evening-phase : evening .run .stream .phase ≡ Phase.Walking 2
+  pub last-byte-to-come : numberIn (Phase.Gathering Command.Look 7) ≡ 0
+  pub no-byte-to-come : numberIn (Phase.Gathering Command.Look 8) ≡ shape
+  pub no-body : numberIn (Phase.Gathering Command.Clear 0) ≡ shape
+  pub no-kind : numberIn (Phase.Gathering Command.Unknown 0) ≡ shape
+  pub walk-begun : numberIn (Phase.Walking 0) ≡ 0
+  pub walk-after-slot-0 : numberIn (Phase.Walking 1) ≡ shape
+  pub walk-at-its-end : numberIn (Phase.Walking 2) ≡ 0
+  pub walk-past-used : numberIn (Phase.Walking 3) ≡ shape

@@ -1,16 +1,18 @@
 -- What one byte does: it is a kind, or a byte of a body. The last byte of a body, or a kind without one, makes the command whole.
 use Prim.Native.Nat.{ℕ, _+_}
-use mathlib.Core.Bool.{Bool, true, false, not}
-use lib.ListN.{set}
+use mathlib.Core.Bool.{Bool, true, false}
+use lib.ListN.{set, replicate}
 use lib.Dec.{eqb, ltb, leb}
 use Rattle.rules.specs.Choice.{pick, both, either}
+use Rattle.rules.specs.Refusals.{brokenStream}
 use Rattle.rules.specs.declared.Header.{Header}
-use Rattle.wire.specs.Commands.{commandOf, bodyLength}
+use Rattle.wire.specs.Commands.{bodyBytes, commandOf, bodyLength}
 use Rattle.wire.specs.declared.Command.{Command}
 use Rattle.wire.specs.declared.Saying.{Saying}
-use Rattle.commands.specs.Turns.{Run, Turned, calm, commandTurn}
+use Rattle.commands.specs.Turns.{Run, Turned, turned, calmly, calm, commandTurn}
 use Rattle.commands.specs.declared.Phase.{Phase}
 use Rattle.commands.specs.declared.Stream.{Stream}
+use Rattle.commands.specs.declared.Turn.{Turn}
 
 -- a command of whose body so many bytes have come
 abbrev pub gathered : Command → ℕ → Run → Turned
@@ -46,13 +48,22 @@ cursorIn (Phase.Walking c) = c
 cursorIn Phase.Ended = 0
 
 -- the end of the input: a cut body replies 132 with 9 and ends the run
-abbrev pub endedIn : Phase → Run → Turned
-endedIn Phase.Between s = calm s Phase.Between Saying.Silent
-endedIn (Phase.Gathering k got) s = commandTurn Command.Unknown s
-endedIn (Phase.Walking c) s = calm s (Phase.Walking c) Saying.Silent
-endedIn Phase.Ended s = calm s Phase.Ended Saying.Silent
+abbrev pub endedIn : Phase → Stream → Turn
+endedIn Phase.Between x = calmly x Phase.Between Saying.Silent
+endedIn (Phase.Gathering k got) x = calmly x Phase.Ended (Saying.Refused brokenStream)
+endedIn (Phase.Walking c) x = calmly x (Phase.Walking c) Saying.Silent
+endedIn Phase.Ended x = calmly x Phase.Ended Saying.Silent
 
--- a state that some bytes could have left: a body has a byte to come, and a walk stands at its start or after a slot in use, not slot 0
+-- the end of the input for a run
+abbrev pub endedOf : Run → Turned
+endedOf s = turned (endedIn (s .stream .phase) (s .stream)) (s .links) (s .rows)
+
+-- before the first byte, with the header that start or rebuild has handed back
+abbrev pub opened : Header → Stream
+opened hd = record { header = hd; phase = Phase.Between; body = replicate bodyBytes 0 }
+
+-- a state that some bytes could have left, by its own numbers: a body has a byte to come, and a walk stands at its start or after a slot in
+-- use that is not slot 0
 abbrev pub possibleIn : Phase → Header → Bool
 possibleIn Phase.Between hd = true
 possibleIn (Phase.Gathering k got) hd = ltb got (bodyLength k)

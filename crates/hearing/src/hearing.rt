@@ -3,7 +3,7 @@ ghost use mathlib.Core.Path.{_≡_};
 ghost use Prim.Native.Nat.{_+_};
 ghost use lib.ListN.{set};
 ghost use Rattle.wire.specs.Commands.{commandOf};
-ghost use Rattle.commands.specs.Turns.{turned};
+ghost use Rattle.commands.specs.Turns.{runOf, turned};
 ghost use Rattle.hearing.specs.Heard.{gathered, withByte, heard, endedIn};
 use commands::Phase;
 use commands::Stream;
@@ -32,11 +32,11 @@ fn with_byte(body: Body, i: u32, b: u8) -> Body
 
 // A kind: the command is whole if it has no body.
 fn kind_heard(links: &mut [u32], rows: &mut [u32], s: Stream, b: u8) -> Turn
-    ensures { λ r. ⌜ turned r (now (links .exit)) (now (rows .exit)) ≡ gathered (commandOf b) 0 (record { links = now (links .entry); rows = now (rows .entry); stream = s }) ⌝ }
+    ensures { λ r. ⌜ turned r (now (links .exit)) (now (rows .exit)) ≡ gathered (commandOf b) 0 (runOf (now (links .entry)) (now (rows .entry)) s) ⌝ }
 {
     let command = command_of(b);
     if 0 < body_length(command) {
-        return calm(links, rows, s, Phase::Gathering(command, 0), Saying::Silent);
+        return calm(s, Phase::Gathering(command, 0), Saying::Silent);
     }
     command_turn(links, rows, s, command)
 }
@@ -50,7 +50,7 @@ fn body_heard(
     got: u32,
     b: u8,
 ) -> Turn
-    ensures { λ r. ⌜ turned r (now (links .exit)) (now (rows .exit)) ≡ gathered command (got + 1) (withByte (record { links = now (links .entry); rows = now (rows .entry); stream = s }) got b) ⌝ }
+    ensures { λ r. ⌜ turned r (now (links .exit)) (now (rows .exit)) ≡ gathered command (got + 1) (withByte (runOf (now (links .entry)) (now (rows .entry)) s) got b) ⌝ }
 {
     let header = s.header;
     let phase = s.phase;
@@ -62,44 +62,32 @@ fn body_heard(
         body,
     };
     if got < one_below(body_length(command)) {
-        return calm(
-            links,
-            rows,
-            t,
-            Phase::Gathering(command, got + 1),
-            Saying::Silent,
-        );
+        return calm(t, Phase::Gathering(command, got + 1), Saying::Silent);
     }
     command_turn(links, rows, t, command)
 }
 
 pub fn heard(links: &mut [u32], rows: &mut [u32], s: Stream, b: u8) -> Turn
-    ensures { λ r. ⌜ turned r (now (links .exit)) (now (rows .exit)) ≡ heard (record { links = now (links .entry); rows = now (rows .entry); stream = s }) b ⌝ }
+    ensures { λ r. ⌜ turned r (now (links .exit)) (now (rows .exit)) ≡ heard (runOf (now (links .entry)) (now (rows .entry)) s) b ⌝ }
 {
     let phase = s.phase;
     match phase {
         Phase::Between => kind_heard(links, rows, s, b),
         Phase::Gathering(command, got) => body_heard(links, rows, s, command, got, b),
-        Phase::Walking(cursor) => calm(links, rows, s, Phase::Walking(cursor), Saying::Silent),
-        Phase::Ended => calm(links, rows, s, Phase::Ended, Saying::Silent),
+        Phase::Walking(cursor) => calm(s, Phase::Walking(cursor), Saying::Silent),
+        Phase::Ended => calm(s, Phase::Ended, Saying::Silent),
     }
 }
 
 // The end of the input: a cut body ends the run with 9.
-pub fn ended(links: &[u32], rows: &[u32], s: Stream) -> Turn
-    ensures { λ r. ⌜ turned r (now (links .entry)) (now (rows .entry)) ≡ endedIn (s .phase) (record { links = now (links .entry); rows = now (rows .entry); stream = s }) ⌝ }
+pub fn ended(s: Stream) -> Turn
+    ensures { λ r. ⌜ r ≡ endedIn (s .phase) s ⌝ }
 {
     let phase = s.phase;
     match phase {
-        Phase::Between => calm(links, rows, s, Phase::Between, Saying::Silent),
-        Phase::Gathering(command, got) => calm(
-            links,
-            rows,
-            s,
-            Phase::Ended,
-            Saying::Refused(BROKEN_STREAM),
-        ),
-        Phase::Walking(cursor) => calm(links, rows, s, Phase::Walking(cursor), Saying::Silent),
-        Phase::Ended => calm(links, rows, s, Phase::Ended, Saying::Silent),
+        Phase::Between => calm(s, Phase::Between, Saying::Silent),
+        Phase::Gathering(command, got) => calm(s, Phase::Ended, Saying::Refused(BROKEN_STREAM)),
+        Phase::Walking(cursor) => calm(s, Phase::Walking(cursor), Saying::Silent),
+        Phase::Ended => calm(s, Phase::Ended, Saying::Silent),
     }
 }

@@ -1,11 +1,8 @@
 // The states of a stream: the one it starts in, and which ones some bytes could have left.
 ghost use mathlib.Core.Path.{_≡_};
-ghost use lib.ListN.{replicate};
 ghost use lib.Dec.{eqb, leb};
 ghost use Rattle.rules.specs.Choice.{both, either};
-ghost use Rattle.wire.specs.Commands.{bodyBytes};
-ghost use Rattle.commands.specs.declared.Phase.{Phase};
-ghost use Rattle.hearing.specs.Heard.{possible};
+ghost use Rattle.hearing.specs.Heard.{opened, possible};
 use commands::Phase;
 use commands::Stream;
 use hop::Cursor;
@@ -15,7 +12,7 @@ use wire::commands::body_length;
 
 // Before the first byte, with the header that start or rebuild has handed back.
 pub fn opened(header: Header) -> Stream
-    ensures { λ r. ⌜ r ≡ record { header = header; phase = Phase.Between; body = replicate bodyBytes 0 } ⌝ }
+    ensures { λ r. ⌜ r ≡ opened header ⌝ }
 {
     Stream {
         header,

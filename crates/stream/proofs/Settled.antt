@@ -11,7 +11,7 @@ OnePiece p =
     (x y : Fed) (l m r s o q : List ℕ) → fed x l r o ≡ p → fed y m s q ≡ p → (x ≡ y) × (l ≡ m) × (r ≡ s) × (o ≡ q)
 
 handedBack : Piece → Fed
-handedBack p = record { number = p .number; taken = p .taken; written = p .written; full = p .full; stream = p .run .stream }
+handedBack p = record { number = p .number; taken = p .taken; written = p .written; waits = p .waits; stream = p .run .stream }
 
 one-piece : (p : Piece) → OnePiece p
 unfolding handedBack

@@ -20,10 +20,10 @@ use Rattle.wire.specs.Commands.{commandOf, bodyLength}
 use Rattle.wire.specs.Words.{bytesOf, keyBytes}
 use Rattle.wire.specs.Replies.{sayingBytes, longest}
 use Rattle.wire.proofs.Lengths.{saying-length}
-use Rattle.commands.specs.Turns.{Run, Turned, tableOf, keyOf, rowOf, saidBy, sayKey, sayRow, calm, commandTurn, walkBy, walkTurn}
+use Rattle.commands.specs.Turns.{Run, Turned, turned, tableOf, keyOf, rowOf, saidBy, sayKey, sayRow, calm, commandTurn, walkBy, walkTurn}
 use Rattle.commands.specs.declared.Phase.{Phase}
 use Rattle.stream.specs.Feeding.{replyOf}
-use Rattle.hearing.specs.Heard.{gathered, withByte, heardIn, heard, endedIn}
+use Rattle.hearing.specs.Heard.{gathered, withByte, heardIn, heard, endedIn, endedOf}
 
 -- of an answer something is said, if something is said where it gives
 said-speaks : (k : Kind) (x : Saying) (n : ℕ) (row : List ℕ) → 0 < length (sayingBytes x row) → 0 < length (sayingBytes (saidBy k x n) row)
@@ -100,8 +100,11 @@ walk-fits s c =
     by o ends = calm-fits s Phase.Between (sayKey (o .answer))
     by o refuses = calm-fits s Phase.Between (sayKey (o .answer))
 
-pub ended-fits : (p : Phase) (s : Run) → Fits (endedIn p s)
-ended-fits Phase.Between s = calm-fits s Phase.Between Saying.Silent
-ended-fits (Phase.Gathering k got) s = calm-fits s Phase.Ended (Saying.Refused brokenStream)
-ended-fits (Phase.Walking c) s = calm-fits s (Phase.Walking c) Saying.Silent
-ended-fits Phase.Ended s = calm-fits s Phase.Ended Saying.Silent
+pub ended-fits : (s : Run) → Fits (endedOf s)
+ended-fits s = by (s .stream .phase)
+  where
+    by : (p : Phase) → Fits (turned (endedIn p (s .stream)) (s .links) (s .rows))
+    by Phase.Between = calm-fits s Phase.Between Saying.Silent
+    by (Phase.Gathering k got) = calm-fits s Phase.Ended (Saying.Refused brokenStream)
+    by (Phase.Walking c) = calm-fits s (Phase.Walking c) Saying.Silent
+    by Phase.Ended = calm-fits s Phase.Ended Saying.Silent

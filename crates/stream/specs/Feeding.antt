@@ -13,7 +13,7 @@ use Rattle.commands.specs.declared.Stream.{Stream}
 use Rattle.stream.specs.declared.Fed.{Fed}
 use Rattle.stream.specs.declared.feeding.Progress.{Progress}
 use Rattle.stream.specs.Repeats.{while}
-use Rattle.hearing.specs.Heard.{heard, endedIn, possible}
+use Rattle.hearing.specs.Heard.{heard, endedOf, possible}
 
 -- how far it is: the run, the bytes of the piece taken, the output, and the bytes of it written
 pub record Feeding : Type 0 where
@@ -25,7 +25,7 @@ pub record Feeding : Type 0 where
 abbrev pub phaseOf : Feeding → Phase
 phaseOf f = f .run .stream .phase
 
--- the feeding that a struct stands for beside tables and output
+-- the feeding that the code's Progress stands for beside tables and output
 abbrev pub feeding : Progress → List ℕ → List ℕ → List ℕ → Feeding
 feeding x l r out = record { run = record { links = l; rows = r; stream = x .stream }; taken = x .taken; out = out; written = x .written }
 
@@ -79,12 +79,12 @@ feedNumber l r x room =
     ▸ (ltb room longest, shape)
     ▸ (not (possible x), shape)
 
--- what a piece leaves: the number, the bytes taken and written, whether it stopped since the output is full, the state, tables and output
+-- what a piece leaves: the number, the bytes taken and written, whether something waits to be done, the state, tables and output
 pub record Piece : Type 0 where
   pub number : ℕ
   pub taken : ℕ
   pub written : ℕ
-  pub full : Bool
+  pub waits : Bool
   pub run : Run
   pub out : List ℕ
 
@@ -94,28 +94,29 @@ fed x l r out =
       number = x .number;
       taken = x .taken;
       written = x .written;
-      full = x .full;
+      waits = x .waits;
       run = record { links = l; rows = r; stream = x .stream };
       out = out;
     }
 
 abbrev pub piece : ℕ → Feeding → Piece
-piece n f = record { number = 0; taken = f .taken; written = f .written; full = waits n f; run = f .run; out = f .out }
+piece n f = record { number = 0; taken = f .taken; written = f .written; waits = waits n f; run = f .run; out = f .out }
 
 abbrev pub begun : Run → List ℕ → Feeding
 begun s out = record { run = s; taken = 0; out = out; written = 0 }
 
 -- refused: nothing is taken, written or changed
 abbrev pub refusedPiece : ℕ → Run → List ℕ → Piece
-refusedPiece n s out = record { number = n; taken = 0; written = 0; full = false; run = s; out = out }
+refusedPiece n s out = record { number = n; taken = 0; written = 0; waits = false; run = s; out = out }
+
+abbrev pub pieceUnless : Run → List ℕ → Piece → Piece
+pieceUnless s out p =
+    let n = feedNumber (s .links) (s .rows) (s .stream) (length out) in
+    pick (eqb n 0) p (refusedPiece n s out)
 
 unfoldable pub feedRule : Run → List ℕ → List ℕ → Piece
-feedRule s input out =
-    let n = feedNumber (s .links) (s .rows) (s .stream) (length out) in
-    pick (eqb n 0) (piece (length input) (fedWhole input (begun s out))) (refusedPiece n s out)
+feedRule s input out = pieceUnless s out (piece (length input) (fedWhole input (begun s out)))
 
--- the end of the input, after the last piece: what is left of a walk is fed for first
+-- the end of the input, after the last piece; while a walk is under way nothing is done, and it waits
 unfoldable pub finishRule : Run → List ℕ → Piece
-finishRule s out =
-    let n = feedNumber (s .links) (s .rows) (s .stream) (length out) in
-    pick (eqb n 0) (piece 0 (following 0 out 0 (endedIn (s .stream .phase) s))) (refusedPiece n s out)
+finishRule s out = pieceUnless s out (piece 0 (following 0 out 0 (endedOf s)))

@@ -6,7 +6,7 @@ ghost use lib.ListN.{length};
 ghost use lib.Dec.{ltb};
 ghost use Rattle.rules.specs.Choice.{both};
 ghost use Rattle.wire.specs.Replies.{sayingBytes, fits, replied, repliedTo};
-ghost use Rattle.commands.specs.Turns.{turned};
+ghost use Rattle.commands.specs.Turns.{runOf};
 ghost use Rattle.hearing.specs.Heard.{walksIn, cursorIn};
 ghost use Rattle.stream.specs.Feeding.{feeding, heardOnce, fedOnce, waitsIn, fed, begun, fedWhole, feedRule, finishRule};
 use crate::Fed;
@@ -142,7 +142,7 @@ fn fed_whole(
     input: &[u8],
     out: &mut [u8],
 ) -> Progress
-    ensures { λ r. ⌜ feeding r (now (links .exit)) (now (rows .exit)) (now (out .exit)) ≡ fedWhole (now (input .entry)) (begun (record { links = now (links .entry); rows = now (rows .entry); stream = s }) (now (out .entry))) ⌝ }
+    ensures { λ r. ⌜ feeding r (now (links .exit)) (now (rows .exit)) (now (out .exit)) ≡ fedWhole (now (input .entry)) (begun (runOf (now (links .entry)) (now (rows .entry)) s) (now (out .entry))) ⌝ }
 {
     let mut f = Progress {
         stream: s,
@@ -156,34 +156,34 @@ fn fed_whole(
 }
 
 fn refused(number: u32, s: Stream) -> Fed
-    ensures { λ r. ⌜ r ≡ record { number = number; taken = 0; written = 0; full = false; stream = s } ⌝ }
+    ensures { λ r. ⌜ r ≡ record { number = number; taken = 0; written = 0; waits = false; stream = s } ⌝ }
 {
     Fed {
         number,
         taken: 0,
         written: 0,
-        full: false,
+        waits: false,
         stream: s,
     }
 }
 
 // What a piece of so many bytes hands back.
 fn piece(f: Progress, n: usize) -> Fed
-    ensures { λ r. ⌜ r ≡ record { number = 0; taken = f .taken; written = f .written; full = waitsIn (f .stream .phase) (ltb (f .taken) n); stream = f .stream } ⌝ }
+    ensures { λ r. ⌜ r ≡ record { number = 0; taken = f .taken; written = f .written; waits = waitsIn (f .stream .phase) (ltb (f .taken) n); stream = f .stream } ⌝ }
 {
     let stream = f.stream;
     Fed {
         number: 0,
         taken: f.taken,
         written: f.written,
-        full: waits(f, n),
+        waits: waits(f, n),
         stream,
     }
 }
 
 // Feeds a piece of the input: hears its bytes and writes the replies, until the piece is heard, the output is full or the run is at its end.
 pub fn feed(links: &mut [u32], rows: &mut [u32], s: Stream, input: &[u8], out: &mut [u8]) -> Fed
-    ensures { λ r. ⌜ fed r (now (links .exit)) (now (rows .exit)) (now (out .exit)) ≡ feedRule (record { links = now (links .entry); rows = now (rows .entry); stream = s }) (now (input .entry)) (now (out .entry)) ⌝ }
+    ensures { λ r. ⌜ fed r (now (links .exit)) (now (rows .exit)) (now (out .exit)) ≡ feedRule (runOf (now (links .entry)) (now (rows .entry)) s) (now (input .entry)) (now (out .entry)) ⌝ }
 {
     let number = feed_number(links, rows, s, out.len());
     if number != 0 {
@@ -195,13 +195,13 @@ pub fn feed(links: &mut [u32], rows: &mut [u32], s: Stream, input: &[u8], out: &
 
 // The end of the input, when every byte is heard and every walk at its end: a cut body is answered with 9.
 pub fn finish(links: &[u32], rows: &[u32], s: Stream, out: &mut [u8]) -> Fed
-    ensures { λ r. ⌜ fed r (now (links .entry)) (now (rows .entry)) (now (out .exit)) ≡ finishRule (record { links = now (links .entry); rows = now (rows .entry); stream = s }) (now (out .entry)) ⌝ }
+    ensures { λ r. ⌜ fed r (now (links .entry)) (now (rows .entry)) (now (out .exit)) ≡ finishRule (runOf (now (links .entry)) (now (rows .entry)) s) (now (out .entry)) ⌝ }
 {
     let number = feed_number(links, rows, s, out.len());
     if number != 0 {
         return refused(number, s);
     }
-    let t = ended(links, rows, s);
+    let t = ended(s);
     let f = spoken(out, 0, 0, t);
     piece(f, 0)
 }

@@ -7,13 +7,15 @@ pub use commands::Stream;
 pub use feeding::feed;
 pub use feeding::finish;
 pub use hearing::opened;
+pub use wire::LONGEST;
 
-// What a piece hands back. Number 0 where nothing was refused; the bytes taken of the input and written to the output; full where more
-// waits than the output has room for: another call, with what is left of the input, goes on.
+// What a piece hands back. Number 0 where nothing was refused; 1 for tables or a header of the wrong shape, an output of fewer than LONGEST
+// bytes, or a state that no bytes could have left, and then nothing was done. The bytes taken of the input and written to the output. Waits where
+// something is left to do, since fewer than LONGEST bytes of the output are left: another call, with the rest of the input, goes on.
 pub struct Fed {
     pub number: u32,
     pub taken: usize,
     pub written: usize,
-    pub full: bool,
+    pub waits: bool,
     pub stream: Stream,
 }

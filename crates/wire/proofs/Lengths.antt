@@ -7,10 +7,10 @@ use lib.ListN.{length, length-append}
 use Rattle.rules.specs.Words.{rowWords}
 use Rattle.rules.specs.declared.Key.{Key}
 use Rattle.wire.specs.declared.Saying.{Saying}
-use Rattle.wire.specs.Words.{bytesOf, wordsBytes, keyBytes, rowIn}
+use Rattle.wire.specs.Words.{bytesOf, wordsBytes, keyBytes}
 use Rattle.wire.specs.Replies.{sayingBytes, longest}
 
--- a word has 4 bytes, a key 8, words 4 each; a body holds a row
+-- a word has 4 bytes, a key 8, words 4 each
 pub length-bytes : (w : ℕ) → length (bytesOf w) ≡ 4
 unfolding bytesOf
 length-bytes w = refl
@@ -23,10 +23,6 @@ pub length-words-bytes : (ws : List ℕ) → length (wordsBytes ws) ≡ length w
 unfolding wordsBytes
 length-words-bytes [] = refl
 length-words-bytes (w ∷ ws) = simp (length-append, length-bytes, length-words-bytes ws) (omega arith)
-
-pub row-in-length : (s : List ℕ) → length (rowIn s) ≡ rowWords
-unfolding rowIn
-row-in-length s = refl
 
 -- how long each reply is
 pub silent-length : (row : List ℕ) → length (sayingBytes Saying.Silent row) ≡ 0
@@ -49,18 +45,10 @@ pub refused-length : (n : ℕ) (row : List ℕ) → length (sayingBytes (Saying.
 unfolding sayingBytes
 refused-length n row = refl
 
--- no reply is longer than the longest; only silence is empty
+-- no reply is longer than the longest
 pub saying-length : (s : Saying) (row : List ℕ) → length row ≡ rowWords → length (sayingBytes s row) ≤ longest
 saying-length Saying.Silent row h = omega (arith, silent-length row)
 saying-length (Saying.WithKey k) row h = omega (arith, with-key-length k row)
 saying-length (Saying.WithRow k) row h = omega (arith, with-row-length k row h)
 saying-length Saying.Done row h = omega (arith, done-length row)
 saying-length (Saying.Refused n) row h = omega (arith, refused-length n row)
-
-pub saying-some : (s : Saying) (row : List ℕ) → (s ≡ Saying.Silent → ⊥) → 1 ≤ length (sayingBytes s row)
-unfolding sayingBytes
-saying-some Saying.Silent row h = absurd (h refl)
-saying-some (Saying.WithKey k) row h = omega arith
-saying-some (Saying.WithRow k) row h = omega arith
-saying-some Saying.Done row h = omega arith
-saying-some (Saying.Refused n) row h = omega arith

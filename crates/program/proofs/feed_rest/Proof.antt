@@ -1,11 +1,10 @@
--- `program::feed_rest` meets its contract: what is left of the piece lies in the buffer, and a feed takes no more of it and writes no more than the
--- output holds. Assumes nothing.
-use Prim.Native.Nat.{_+_, _^_, _≤_, _<_}
-use native.Mathlib.Omega.{arith}
-use denote.Ref.{now}
-use Rattle.course.proofs.Bounds.{feed-within}
-use Rattle.program.proofs.Rest.{rest-length}
+-- `program::feed_rest` meets its contract. Assumes nothing.
 use Rattle.program.proofs.Goes.{fed-place}
+use Rattle.program.proofs.Rest.{rest-length}
+use Rattle.course.proofs.Bounds.{feed-within}
+use denote.Ref.{now}
+use native.Mathlib.Omega.{arith}
+use Prim.Native.Nat.{_<_, _^_}
 use borrow.Author.Needs.{needs}
 use Rattle.program.proofs.feed_rest.Statement.{statement}
 use Rattle.program.proofs.feed_rest.Tie as tie
@@ -25,20 +24,13 @@ feed-requires c κs = search needs
 write-reply-requires : tie.Need-write-reply-requires
 write-reply-requires c κs = feed-within _ _ _ _ (c .before .before .before .before .before .before .before .feed .ensures) .1
 
-goes-on-requires : tie.Need-goes-on-requires
-goes-on-requires c κs = search needs
-
--- no more of the piece is taken than was left of it
-taken : (c : tie.After-struct-known) → c .before .before .before .before .before .before .before .before .before .before .before .before .before .before .before .before .before .before .before .before .args .p .at + c .before .before .before .before .before .before .before .before .before .before .before .feed .result .taken ≤ c .before .before .before .before .before .before .before .before .before .before .before .before .before .before .before .before .before .before .before .before .args .p .end
-taken c =
-    let x = c .before .before .before .before .before .before .before .before .before .before .before .before .before .before .before .before .before .before .before .before in
-    omega (arith, feed-within _ _ _ _ (c .before .before .before .before .before .before .before .before .before .before .before .feed .ensures) .0, rest-length (now (x .args .input)) (x .args .p .at) (x .args .p .end) (x .pre .1), x .pre .0)
-
 end-fits : (x : tie.Start) → x .args .p .end < 2 ^ 64
 end-fits x = omega arith
 
-add-t17 : tie.Need-add-t17
-add-t17 c = omega (arith, taken c, end-fits (c .before .before .before .before .before .before .before .before .before .before .before .before .before .before .before .before .before .before .before .before))
+fed-at-requires : tie.Need-fed-at-requires
+fed-at-requires c κs =
+    let x = c .before .before .before .before .before .before .before .before .before .before .before .before .before .before .before .before .before in
+    omega (arith, feed-within _ _ _ _ (c .before .before .before .before .before .before .before .before .feed .ensures) .0, rest-length (now (x .args .input)) (x .args .p .at) (x .args .p .end) (x .pre .1), x .pre .0, end-fits x)
 
 same-length : tie.Need-same-length
 same-length c = search needs
@@ -51,8 +43,12 @@ same-length-3 c = search needs
 
 returns : tie.Need-returns
 returns c =
-    let x = c .before .before .before .before .before .before .before .before .before .before .before .before .before .before .before .before .before .before .before .before in
-    ((taken c, x .pre .1), fed-place (x .args .p) _ _ _ _ (c .before .goes-on .ensures) (c .before .before .before .before .before .before .before .before .before .before .before .feed .ensures))
+    let x = c .before .before .before .before .before .before .before .before .before .before .before .before .before .before .before .before .before .before in
+    let taken = feed-within _ _ _ _ (c .before .before .before .before .before .before .before .before .before .feed .ensures) .0 in
+    let rest = rest-length (now (x .args .input)) (x .args .p .at) (x .args .p .end) (x .pre .1) in (
+      rw (c .fed-at .ensures) (omega (arith, taken, rest, x .pre .0), x .pre .1),
+      fed-place (x .args .p) _ _ _ _ _ _ _ (c .fed-at .ensures) (c .before .before .before .before .before .before .before .before .before .feed .ensures),
+    )
 
 pub feed-rest-spec : {M : Type 1} → statement M
 feed-rest-spec =
@@ -63,8 +59,7 @@ feed-rest-spec =
     part-feed-end
     feed-requires
     write-reply-requires
-    goes-on-requires
-    add-t17
+    fed-at-requires
     same-length
     same-length-2
     same-length-3

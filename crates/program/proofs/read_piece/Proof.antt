@@ -1,6 +1,9 @@
 -- `program::read_piece` meets its contract. Assumes nothing.
+use mir.Val.{toZ, ofZ}
+use mir.Syntax.{w64}
+use Rattle.program.proofs.Rest.{clamped-within}
+use native.Mathlib.Omega.{arith}
 use mathlib.Core.Path.{refl}
-use Rattle.program.proofs.Goes.{stops}
 use borrow.Author.Needs.{needs}
 use Rattle.program.proofs.read_piece.Statement.{statement}
 use Rattle.program.proofs.read_piece.Tie as tie
@@ -21,28 +24,27 @@ same-length : tie.Need-same-length
 same-length c = search needs
 
 returns : tie.Need-returns
-returns c = stops _ _ _ _ (c .stopped .ensures)
+returns c = rw (c .stopped .ensures) ((omega arith, omega arith), refl)
 
-finish-requires : tie.Need-finish-requires
-finish-requires c κs = search needs
+stopped-requires-2 : tie.Need-stopped-requires-2
+stopped-requires-2 c κs = search needs
 
 same-length-2 : tie.Need-same-length-2
 same-length-2 c = search needs
 
+returns-2 : tie.Need-returns-2
+returns-2 c = rw (c .stopped2 .ensures) ((omega arith, omega arith), refl)
+
+piece-read-requires : tie.Need-piece-read-requires
+piece-read-requires c κs = search needs
+
 same-length-3 : tie.Need-same-length-3
 same-length-3 c = search needs
 
-returns-2 : tie.Need-returns-2
-returns-2 c = stops _ _ _ _ (c .before .before .finish .ensures)
-
-count-requires : tie.Need-count-requires
-count-requires c κs = search needs
-
-same-length-4 : tie.Need-same-length-4
-same-length-4 c = search needs
-
 returns-3 : tie.Need-returns-3
-returns-3 c = (search needs, λ _. refl)
+returns-3 c =
+    let got = toZ w64 (ofZ w64 (c .before .before .before .before .before .before .read .result)) in
+    rw (c .piece-read .ensures) ((omega arith, clamped-within got _ _ (c .before .before .before .before .before .before .read .kept .1 .0)), refl)
 
 pub read-piece-spec : {M : Type 1} → statement M
 read-piece-spec =
@@ -54,10 +56,9 @@ read-piece-spec =
     stopped-requires
     same-length
     returns
-    finish-requires
+    stopped-requires-2
     same-length-2
-    same-length-3
     returns-2
-    count-requires
-    same-length-4
+    piece-read-requires
+    same-length-3
     returns-3)

@@ -1,29 +1,27 @@
--- `program::serve` is safe and ends. The invariant: lengths stay, and what is left of the piece lies in the buffer. The measure is the number of
--- turns that are left. Assumes nothing.
-use mathlib.Core.Path.{_≡_}
-use lib.ListN.{length}
-use native.Mathlib.Omega.{arith}
-use Rattle.program.specs.Places.{Within}
+-- `program::serve` meets its contract. Assumes nothing.
 use borrow.Author.Needs.{needs}
+use Rattle.program.specs.Places.{InBuffer}
+use native.Mathlib.Omega.{arith}
+use lib.ListN.{length}
+use mathlib.Core.Path.{_≡_}
 use Rattle.program.proofs.serve.Statement.{statement}
 use Rattle.program.proofs.serve.Tie as tie
 
 abbrev Inv-loop : tie.InvT-loop
-Inv-loop links₀ rows₀ input₀ out₀ p₀ turns₀ links rows input out p turns =
-    (length links ≡ length links₀) × (length rows ≡ length rows₀) × (length input ≡ length input₀) × (length out ≡ length out₀)
-    × Within p (length input)
+Inv-loop links₀ rows₀ input₀ out₀ p₀ rounds₀ links rows input out p rounds =
+    (length links ≡ length links₀) × (length rows ≡ length rows₀) × (length input ≡ length input₀) × (length out ≡ length out₀) × InBuffer p (length input)
 
 abbrev μ-loop : tie.MeasureT-loop
-μ-loop links₀ rows₀ input₀ out₀ p₀ turns₀ links rows input out p turns = turns
+μ-loop links₀ rows₀ input₀ out₀ p₀ rounds₀ links rows input out p rounds = rounds
 
 loop-holds : tie.Need-loop-holds Inv-loop μ-loop
 loop-holds c = search needs
 
-turn-requires : tie.Need-turn-requires Inv-loop μ-loop
-turn-requires c κs = search needs
+round-requires : tie.Need-round-requires Inv-loop μ-loop
+round-requires c κs = search needs
 
-sub-turns : tie.Need-sub-turns Inv-loop μ-loop
-sub-turns c = search needs
+sub-rounds : tie.Need-sub-rounds Inv-loop μ-loop
+sub-rounds c = search needs
 
 loop-less : tie.Need-loop-less Inv-loop μ-loop
 loop-less c = omega arith
@@ -68,8 +66,8 @@ serve-spec =
     Inv-loop
     μ-loop
     loop-holds
-    turn-requires
-    sub-turns
+    round-requires
+    sub-rounds
     loop-less
     loop-again
     same-length

@@ -1,6 +1,7 @@
 -- `program::start_map` meets its contract. Assumes nothing.
-use mathlib.Core.Path.{refl}
 use Rattle.program.proofs.Starts.{starts}
+use Rattle.history.specs.Histories.{left}
+use mathlib.Core.Path.{refl, ap}
 use borrow.Author.Needs.{needs}
 use Rattle.program.proofs.start_map.Statement.{statement}
 use Rattle.program.proofs.start_map.Tie as tie
@@ -19,8 +20,10 @@ same-length-2 c = search needs
 
 returns : tie.Need-returns
 returns c =
-    let e = starts _ _ _ (c .before .before .before .before .before .before .before .before .before .before .pre .0) (c .before .before .before .before .before .before .before .before .before .before .pre .1) (c .before .before .before .before .before .start .result) _ _ (c .before .before .before .before .before .start .ensures) in
-    rw (c .opened .ensures, e .0, e .1) refl
+    let x = c .before .before .before .before .before .before .before .before .before .before .pre in
+    let made = c .before .before .before .before .before .start in
+    let e = starts _ _ _ (x .0) (x .1) (made .result) _ _ (made .ensures) in
+    (rw (c .opened .ensures, e .0, e .1) refl, rw (c .opened .ensures) (ap left (made .ensures)))
 
 pub start-map-spec : {M : Type 1} → statement M
 start-map-spec =

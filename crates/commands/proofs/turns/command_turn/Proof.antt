@@ -1,4 +1,8 @@
 -- `commands::command_turn` meets its contract. Assumes nothing.
+use Rattle.commands.specs.Turns.{turned}
+use Rattle.commands.specs.declared.Turn.{Turn}
+use denote.Ref.{now}
+use mathlib.Core.Path.{ap}
 use borrow.Author.Needs.{needs}
 use Rattle.commands.proofs.turns.command_turn.Statement.{statement}
 use Rattle.commands.proofs.turns.command_turn.Tie as tie
@@ -75,23 +79,15 @@ same-length-8 c = search needs
 returns-4 : tie.Need-returns-4
 returns-4 c = rw (c .before .before .before .before .before .before .before .enum-told4 .given .1) (c .before .before .before .before .clear-turn .ensures)
 
-same-length-9 : tie.Need-same-length-9
-same-length-9 c = search needs
-
-same-length-10 : tie.Need-same-length-10
-same-length-10 c = search needs
-
 returns-5 : tie.Need-returns-5
-returns-5 c = rw (c .before .before .before .enum-told5 .given .1) (c .calm .ensures)
-
-same-length-11 : tie.Need-same-length-11
-same-length-11 c = search needs
-
-same-length-12 : tie.Need-same-length-12
-same-length-12 c = search needs
+returns-5 c =
+    let a = c .before .before .before .before .before .args in
+    rw (c .before .enum-told5 .given .1) (ap (λ (x : Turn). turned x (now (a .links)) (now (a .rows))) (c .calm .ensures))
 
 returns-6 : tie.Need-returns-6
-returns-6 c = rw (c .before .before .before .enum-told6 .given .1) (c .calm2 .ensures)
+returns-6 c =
+    let a = c .before .before .before .before .before .args in
+    rw (c .before .enum-told6 .given .1) (ap (λ (x : Turn). turned x (now (a .links)) (now (a .rows))) (c .calm2 .ensures))
 
 pub command-turn-spec : {M : Type 1} → statement M
 command-turn-spec =
@@ -121,9 +117,5 @@ command-turn-spec =
     same-length-7
     same-length-8
     returns-4
-    same-length-9
-    same-length-10
     returns-5
-    same-length-11
-    same-length-12
     returns-6)

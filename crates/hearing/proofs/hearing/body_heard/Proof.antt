@@ -1,8 +1,11 @@
 -- `hearing::body_heard` meets its contract. Assumes nothing.
-use Prim.Native.Nat.{_+_}
-use mathlib.Core.Path.{_∙_}
-use native.Mathlib.Omega.{arith}
 use Rattle.hearing.proofs.Phases.{gathering, whole-body}
+use Rattle.commands.specs.Turns.{turned}
+use Rattle.commands.specs.declared.Turn.{Turn}
+use native.Mathlib.Omega.{arith}
+use denote.Ref.{now}
+use mathlib.Core.Path.{ap, _∙_}
+use Prim.Native.Nat.{_+_}
 use borrow.Author.Needs.{needs}
 use Rattle.hearing.proofs.hearing.body_heard.Statement.{statement}
 use Rattle.hearing.proofs.hearing.body_heard.Tie as tie
@@ -16,32 +19,26 @@ body-length-requires c κs = search needs
 one-below-requires : tie.Need-one-below-requires
 one-below-requires c κs = search needs
 
-add-t19 : tie.Need-add-t19
-add-t19 c = search needs
+add-t15 : tie.Need-add-t15
+add-t15 c = search needs
 
 calm-requires : tie.Need-calm-requires
 calm-requires c κs = search needs
+
+returns : tie.Need-returns
+returns c =
+    let a = c .before .before .before .before .before .before .before .before .before .args in
+    ap (λ (x : Turn). turned x (now (a .links)) (now (a .rows))) (rw (c .before .before .before .before .with-byte .ensures) at (c .calm .ensures))
+    ∙ gathering (a .command) _ _ (omega (arith, c .before .if1 .taken, c .before .before .one-below .ensures, c .before .before .before .body-length .ensures))
+
+command-turn-requires : tie.Need-command-turn-requires
+command-turn-requires c κs = search needs
 
 same-length : tie.Need-same-length
 same-length c = search needs
 
 same-length-2 : tie.Need-same-length-2
 same-length-2 c = search needs
-
-returns : tie.Need-returns
-returns c =
-    let a = c .before .before .before .before .before .before .before .before .before .before .before .args in
-    rw (c .before .before .before .before .before .before .with-byte .ensures) at (c .calm .ensures)
-    ∙ gathering (a .command) _ _ (omega (arith, c .before .before .before .if1 .taken, c .before .before .before .before .one-below .ensures, c .before .before .before .before .before .body-length .ensures))
-
-command-turn-requires : tie.Need-command-turn-requires
-command-turn-requires c κs = search needs
-
-same-length-3 : tie.Need-same-length-3
-same-length-3 c = search needs
-
-same-length-4 : tie.Need-same-length-4
-same-length-4 c = search needs
 
 returns-2 : tie.Need-returns-2
 returns-2 c =
@@ -56,12 +53,10 @@ body-heard-spec =
     with-byte-requires
     body-length-requires
     one-below-requires
-    add-t19
+    add-t15
     calm-requires
-    same-length
-    same-length-2
     returns
     command-turn-requires
-    same-length-3
-    same-length-4
+    same-length
+    same-length-2
     returns-2)

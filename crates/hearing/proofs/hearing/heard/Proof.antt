@@ -1,6 +1,9 @@
 -- `hearing::heard` meets its contract. Assumes nothing.
-use mathlib.Core.Path.{_∙_}
 use Rattle.hearing.proofs.Phases.{heard-by}
+use Rattle.commands.specs.Turns.{runOf, turned}
+use Rattle.commands.specs.declared.Turn.{Turn}
+use denote.Ref.{now}
+use mathlib.Core.Path.{ap, _∙_}
 use borrow.Author.Needs.{needs}
 use Rattle.hearing.proofs.hearing.heard.Statement.{statement}
 use Rattle.hearing.proofs.hearing.heard.Tie as tie
@@ -47,23 +50,15 @@ same-length-4 c = search needs
 returns-2 : tie.Need-returns-2
 returns-2 c = c .before .before .before .before .body-heard .ensures ∙ heard-by _ _ _ (c .before .before .before .before .before .before .before .before .phase .given .1)
 
-same-length-5 : tie.Need-same-length-5
-same-length-5 c = search needs
-
-same-length-6 : tie.Need-same-length-6
-same-length-6 c = search needs
-
 returns-3 : tie.Need-returns-3
-returns-3 c = c .calm .ensures ∙ heard-by _ _ _ (c .before .before .before .before .phase2 .given .1)
-
-same-length-7 : tie.Need-same-length-7
-same-length-7 c = search needs
-
-same-length-8 : tie.Need-same-length-8
-same-length-8 c = search needs
+returns-3 c =
+    let a = c .before .before .before .before .before .before .args in
+    ap (λ (x : Turn). turned x (now (a .links)) (now (a .rows))) (c .calm .ensures) ∙ heard-by (runOf (now (a .links)) (now (a .rows)) (a .s)) _ _ (c .before .before .phase2 .given .1)
 
 returns-4 : tie.Need-returns-4
-returns-4 c = c .calm2 .ensures ∙ heard-by _ _ _ (c .before .before .before .enum-told2 .given .1)
+returns-4 c =
+    let a = c .before .before .before .before .before .args in
+    ap (λ (x : Turn). turned x (now (a .links)) (now (a .rows))) (c .calm2 .ensures) ∙ heard-by (runOf (now (a .links)) (now (a .rows)) (a .s)) _ _ (c .before .enum-told2 .given .1)
 
 pub heard-spec : {M : Type 1} → statement M
 heard-spec =
@@ -83,9 +78,5 @@ heard-spec =
     same-length-3
     same-length-4
     returns-2
-    same-length-5
-    same-length-6
     returns-3
-    same-length-7
-    same-length-8
     returns-4)

@@ -1,9 +1,10 @@
 -- `hearing::kind_heard` meets its contract. Assumes nothing.
-use Rattle.commands.specs.Turns.{Run}
-use denote.Ref.{now}
-use Rattle.wire.specs.declared.Command.{Command}
-use Rattle.hearing.specs.Heard.{gathered}
 use Rattle.hearing.proofs.Phases.{gathering, whole-body}
+use Rattle.hearing.specs.Heard.{gathered}
+use Rattle.commands.specs.Turns.{Run, runOf, turned}
+use Rattle.commands.specs.declared.Turn.{Turn}
+use Rattle.wire.specs.declared.Command.{Command}
+use denote.Ref.{now}
 use mathlib.Core.Path.{ap, _∙_}
 use borrow.Author.Needs.{needs}
 use Rattle.hearing.proofs.hearing.kind_heard.Statement.{statement}
@@ -18,33 +19,27 @@ body-length-requires c κs = search needs
 calm-requires : tie.Need-calm-requires
 calm-requires c κs = search needs
 
+returns : tie.Need-returns
+returns c =
+    let a = c .before .before .before .before .before .before .args in
+    let s : Run = runOf (now (a .links)) (now (a .rows)) (a .s) in
+    ap (λ (x : Turn). turned x (now (a .links)) (now (a .rows))) (c .calm .ensures)
+    ∙ gathering (c .before .before .before .command-of .result) 0 s (rw (c .before .before .body-length .ensures) at (c .before .if1 .taken))
+    ∙ ap (λ (k : Command). gathered k 0 s) (c .before .before .before .command-of .ensures)
+
+command-turn-requires : tie.Need-command-turn-requires
+command-turn-requires c κs = search needs
+
 same-length : tie.Need-same-length
 same-length c = search needs
 
 same-length-2 : tie.Need-same-length-2
 same-length-2 c = search needs
 
-returns : tie.Need-returns
-returns c =
-    let a = c .before .before .before .before .before .before .before .before .args in
-    let s : Run = record { links = now (a .links); rows = now (a .rows); stream = a .s } in
-    c .calm .ensures
-    ∙ gathering (c .before .before .before .before .before .command-of .result) 0 s (rw (c .before .before .before .before .body-length .ensures) at (c .before .before .before .if1 .taken))
-    ∙ ap (λ (k : Command). gathered k 0 s) (c .before .before .before .before .before .command-of .ensures)
-
-command-turn-requires : tie.Need-command-turn-requires
-command-turn-requires c κs = search needs
-
-same-length-3 : tie.Need-same-length-3
-same-length-3 c = search needs
-
-same-length-4 : tie.Need-same-length-4
-same-length-4 c = search needs
-
 returns-2 : tie.Need-returns-2
 returns-2 c =
     let a = c .before .before .before .before .before .before .before .before .before .before .before .before .args in
-    let s : Run = record { links = now (a .links); rows = now (a .rows); stream = a .s } in
+    let s : Run = runOf (now (a .links)) (now (a .rows)) (a .s) in
     c .before .before .before .before .command-turn .ensures
     ∙ whole-body (c .before .before .before .before .before .before .before .before .before .command-of .result) 0 s (rw (c .before .before .before .before .before .before .before .before .body-length .ensures) at (c .before .before .before .before .before .before .before .if1 .left))
     ∙ ap (λ (k : Command). gathered k 0 s) (c .before .before .before .before .before .before .before .before .before .command-of .ensures)
@@ -56,10 +51,8 @@ kind-heard-spec =
     command-of-requires
     body-length-requires
     calm-requires
-    same-length
-    same-length-2
     returns
     command-turn-requires
-    same-length-3
-    same-length-4
+    same-length
+    same-length-2
     returns-2)

@@ -2,6 +2,8 @@
 use Rattle.stream.proofs.Phases.{spoken-is}
 use Rattle.stream.proofs.Numbered.{turned-down, taken-in}
 use Rattle.stream.specs.Feeding.{waits, piece, finishRule}
+use Rattle.commands.specs.Turns.{Run, runOf, turned}
+use Rattle.commands.specs.declared.Turn.{Turn}
 use mathlib.Core.Path.{ap}
 use denote.Ref.{now}
 use borrow.Author.Needs.{needs}
@@ -18,7 +20,7 @@ returns : tie.Need-returns
 unfolding finishRule
 returns c =
     let a = c .before .before .before .before .before .before .args in
-    rw (c .refused .ensures) (turned-down (record { links = now (a .links); rows = now (a .rows); stream = a .s }) (now (a .out)) _ _ _ (c .before .before .feed-number .ensures) (c .before .if1 .taken))
+    rw (c .refused .ensures) (turned-down (runOf (now (a .links)) (now (a .rows)) (a .s)) (now (a .out)) _ _ _ (c .before .before .feed-number .ensures) (c .before .if1 .taken))
 
 ended-requires : tie.Need-ended-requires
 ended-requires c κs = search needs
@@ -36,8 +38,10 @@ returns-2 : tie.Need-returns-2
 unfolding finishRule waits
 returns-2 c =
     let a = c .before .before .before .before .before .before .before .before .before .before .before .args in
-    taken-in (record { links = now (a .links); rows = now (a .rows); stream = a .s }) (now (a .out)) _ _ _ (c .before .before .before .before .before .before .before .feed-number .ensures) (c .before .before .before .before .before .before .if1 .left) _
-    (rw (c .piece .ensures) (ap (piece 0) (spoken-is _ _ _ _ _ _ _ _ _ (c .before .before .before .spoken .ensures .0) (c .before .before .before .spoken .ensures .1) (c .before .before .before .before .before .ended .ensures))))
+    let s : Run = runOf (now (a .links)) (now (a .rows)) (a .s) in
+    let ends = ap (λ (x : Turn). turned x (s .links) (s .rows)) (c .before .before .before .before .before .ended .ensures) in
+    taken-in s (now (a .out)) _ _ _ (c .before .before .before .before .before .before .before .feed-number .ensures) (c .before .before .before .before .before .before .if1 .left) _
+    (rw (c .piece .ensures) (ap (piece 0) (spoken-is _ _ _ _ _ _ _ _ _ (c .before .before .before .spoken .ensures .0) (c .before .before .before .spoken .ensures .1) ends)))
 
 pub finish-spec : {M : Type 1} → statement M
 finish-spec =
