@@ -46,8 +46,10 @@ extern "C" {
 #define HOP_REFUSED 2u
 
 /* The numbers of a refusal. */
-#define HOP_SHAPE 1u          /* lengths that are no table's or no row's, or that differ; used 0 or over the slots lent; live over used less 1 */
-#define HOP_DAMAGED 2u        /* slot 0 has an odd version, or a link leads astray */
+#define HOP_SHAPE 1u          /* lengths that are no table's, or that differ; another number of side words, keep bytes or presence bytes than is
+                                 asked for; used 0 or over the slots lent; live over used less 1 */
+#define HOP_DAMAGED 2u        /* the table is not sound where the call looked: slot 0 has an odd version, a link leads astray, or live does not
+                                 fit (hop_sound, hop_clear and hop_retain look at all of it) */
 #define HOP_EVEN_VERSION 3u   /* a key with an even version: none is ever handed out */
 #define HOP_NOT_LIVE 4u       /* a key that is not live */
 #define HOP_FULL 5u           /* no slot is left */

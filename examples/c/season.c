@@ -136,7 +136,8 @@ static void keep_south_of(uint32_t north)
     printf("%" PRIu32 " lost in the north\n", answer.count);
 }
 
-/* The header and the chain of vacant slots are lost; versions and rows are still there, and who knows which slots were live makes a map of them. */
+/* The header and the chain of vacant slots are lost; versions and rows are still there, and whoever knows which slots were live makes a map of
+ * them. */
 static void power_cut(void)
 {
     uint8_t presence[SLOTS] = {0};
