@@ -32,10 +32,10 @@ use Rattle.commands.specs.Turns.{Run, tableOf}
 use Rattle.hearing.specs.Heard.{possible}
 use Rattle.stream.specs.Feeding.{feedNumber, feedRule}
 use Rattle.course.specs.Course.{Course, course}
-use Rattle.course.specs.Pieces.{Pieces, none, more}
+use Rattle.course.specs.Pieces.{Pieces}
 use Rattle.course.specs.Calls.{calls}
 use Rattle.course.proofs.Pieces.{pieces}
-use Rattle.course.proofs.Possible.{feed-possible}
+use Rattle.course.proofs.Possible.{pieces-possible}
 use Rattle.course.proofs.Histories.{calls-lead, calls-within, walked-out-table}
 
 -- the table that a start leaves, where it is not refused, is one that a history begins with
@@ -97,12 +97,7 @@ shown-row l r hd k =
     (λ _ _. refl)
     (λ _ e. absurd (eqb-false 0 1 refl (cc)))
 
--- pieces from a possible state lead to one
-pieces-possible : {s s′ : Run} {taken written : List ℕ} → Pieces s taken written s′ → possible (s .stream) ≡ true → possible (s′ .stream) ≡ true
-pieces-possible none h = h
-pieces-possible {s} (more input out e ps) h = pieces-possible ps (feed-possible s input out e)
-
--- and to the table that the course of all their bytes leads to, in mid-walk too
+-- pieces lead to the table that the course of all their bytes leads to, in mid-walk too
 pieces-table : {s s′ : Run} {taken written : List ℕ} → Pieces s taken written s′ → tableOf (course s taken .run) ≡ tableOf s′
 pieces-table {s} {s′} {taken} ps =
     ap (λ (xs : List ℕ). tableOf (course s xs .run)) (sym (append-nil taken))

@@ -42,8 +42,8 @@ tried =
       no-byte-to-come = refl;
       no-body = refl;
       no-kind = refl;
-      walk-begun = refl;
+      walk-at-its-start = refl;
       walk-after-slot-0 = refl;
-      walk-at-its-end = refl;
+      walk-after-slot-1 = refl;
       walk-past-used = refl;
     }

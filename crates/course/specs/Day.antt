@@ -101,7 +101,7 @@ pub record Told : Type 0 where
   pub no-byte-to-come : numberIn (Phase.Gathering Command.Look 8) ≡ shape
   pub no-body : numberIn (Phase.Gathering Command.Clear 0) ≡ shape
   pub no-kind : numberIn (Phase.Gathering Command.Unknown 0) ≡ shape
-  pub walk-begun : numberIn (Phase.Walking 0) ≡ 0
+  pub walk-at-its-start : numberIn (Phase.Walking 0) ≡ shape
   pub walk-after-slot-0 : numberIn (Phase.Walking 1) ≡ shape
-  pub walk-at-its-end : numberIn (Phase.Walking 2) ≡ 0
+  pub walk-after-slot-1 : numberIn (Phase.Walking 2) ≡ 0
   pub walk-past-used : numberIn (Phase.Walking 3) ≡ shape

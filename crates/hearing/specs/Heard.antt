@@ -2,8 +2,8 @@
 use Prim.Native.Nat.{ℕ, _+_}
 use mathlib.Core.Bool.{Bool, true, false}
 use lib.ListN.{set, replicate}
-use lib.Dec.{eqb, ltb, leb}
-use Rattle.rules.specs.Choice.{pick, both, either}
+use lib.Dec.{ltb, leb}
+use Rattle.rules.specs.Choice.{pick, both}
 use Rattle.rules.specs.Refusals.{brokenStream}
 use Rattle.rules.specs.declared.Header.{Header}
 use Rattle.wire.specs.Commands.{bodyBytes, commandOf, bodyLength}
@@ -62,12 +62,12 @@ endedOf s = turned (endedIn (s .stream .phase) (s .stream)) (s .links) (s .rows)
 abbrev pub opened : Header → Stream
 opened hd = record { header = hd; phase = Phase.Between; body = replicate bodyBytes 0 }
 
--- a state that some bytes could have left, by its own numbers: a body has a byte to come, and a walk stands at its start or after a slot in
--- use that is not slot 0
+-- a state that some bytes could have left, by its own numbers: a body has a byte to come, and a walk stands after a slot in use that is not
+-- slot 0. At its start no walk is left: a piece that hears its kind has room for its first step
 abbrev pub possibleIn : Phase → Header → Bool
 possibleIn Phase.Between hd = true
 possibleIn (Phase.Gathering k got) hd = ltb got (bodyLength k)
-possibleIn (Phase.Walking c) hd = either (eqb c 0) (both (leb 2 c) (leb c (hd .used)))
+possibleIn (Phase.Walking c) hd = both (leb 2 c) (leb c (hd .used))
 possibleIn Phase.Ended hd = true
 
 unfoldable pub possible : Stream → Bool

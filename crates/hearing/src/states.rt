@@ -1,7 +1,7 @@
 // The states of a stream: the one it starts in, and which ones some bytes could have left.
 ghost use mathlib.Core.Path.{_≡_};
-ghost use lib.Dec.{eqb, leb};
-ghost use Rattle.rules.specs.Choice.{both, either};
+ghost use lib.Dec.{leb};
+ghost use Rattle.rules.specs.Choice.{both};
 ghost use Rattle.hearing.specs.Heard.{opened, possible};
 use commands::Phase;
 use commands::Stream;
@@ -21,13 +21,10 @@ pub fn opened(header: Header) -> Stream
     }
 }
 
-// A walk stands at its start or after a slot in use, and slot 0 is never shown.
+// A walk stands after a slot in use, and slot 0 is never shown.
 fn walk_possible(cursor: Cursor, used: u32) -> bool
-    ensures { λ r. ⌜ r ≡ either (eqb cursor 0) (both (leb 2 cursor) (leb cursor used)) ⌝ }
+    ensures { λ r. ⌜ r ≡ both (leb 2 cursor) (leb cursor used) ⌝ }
 {
-    if cursor == 0 {
-        return true;
-    }
     if cursor < 2 {
         return false;
     }

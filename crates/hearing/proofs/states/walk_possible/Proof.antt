@@ -1,17 +1,14 @@
 -- `hearing::walk_possible` meets its contract. Assumes nothing.
 use mathlib.Core.Path.{refl}
-use borrow.Author.Tests.{eq-eqb, ne-eqb, le-leb, lt-leb}
+use borrow.Author.Tests.{le-leb, lt-leb}
 use Rattle.hearing.proofs.states.walk_possible.Statement.{statement}
 use Rattle.hearing.proofs.states.walk_possible.Tie as tie
 
 returns : tie.Need-returns
-returns c = rw (eq-eqb _ _ (c .if1 .taken)) refl
+returns c = rw (lt-leb _ _ (c .if1 .taken)) refl
 
 returns-2 : tie.Need-returns-2
-returns-2 c = rw (ne-eqb _ _ (c .before .if1 .left), lt-leb _ _ (c .if2 .taken)) refl
-
-returns-3 : tie.Need-returns-3
-returns-3 c = rw (ne-eqb _ _ (c .before .if1 .left), le-leb _ _ (c .if2 .left)) refl
+returns-2 c = rw (le-leb _ _ (c .if1 .left)) refl
 
 pub walk-possible-spec : {M : Type 1} → statement M
-walk-possible-spec = tie.close (tie.spec returns returns-2 returns-3)
+walk-possible-spec = tie.close (tie.spec returns returns-2)
