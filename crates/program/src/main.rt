@@ -9,7 +9,7 @@ ghost use Rattle.history.specs.Histories.{left};
 ghost use Rattle.io.specs.Counts.{clamped};
 ghost use Rattle.commands.specs.Turns.{runOf};
 ghost use Rattle.stream.specs.Feeding.{feedRule};
-ghost use Rattle.program.specs.Places.{opening, InBuffer, restOf, stoppedAt, goesOn, fedAt, Around, around, fedTo, readTo};
+ghost use Rattle.program.specs.Places.{opening, InBuffer, restOf, stoppedAt, goesOn, fedAt, around, fedTo, readTo};
 use hop::Header;
 use libc::STDERR_FILENO;
 use libc::STDIN_FILENO;
