@@ -6,6 +6,7 @@ pub mod Courses
 -- However the input is cut; its end; where a feed stops, and within what; the states that it leaves.
 pub mod FedTurns
 pub mod Pieces
+pub mod Reached
 pub mod Whole
 pub mod Stops
 pub mod Bounds

@@ -98,7 +98,7 @@ shown-row l r hd k =
     (λ _ e. absurd (eqb-false 0 1 refl (cc)))
 
 -- pieces lead to the table that the course of all their bytes leads to, in mid-walk too
-pieces-table : {s s′ : Run} {taken written : List ℕ} → Pieces s taken written s′ → tableOf (course s taken .run) ≡ tableOf s′
+pub pieces-table : {s s′ : Run} {taken written : List ℕ} → Pieces s taken written s′ → tableOf (course s taken .run) ≡ tableOf s′
 pieces-table {s} {s′} {taken} ps =
     ap (λ (xs : List ℕ). tableOf (course s xs .run)) (sym (append-nil taken))
     ∙ ap (λ (x : Course). tableOf (x .run)) (pieces ps [])

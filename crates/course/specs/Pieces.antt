@@ -19,3 +19,7 @@ pub data Pieces : Run → List ℕ → List ℕ → Run → Type 0 where
   more : {s s′ : Run} {taken written : List ℕ} (input out : List ℕ) → feedRule s input out .number ≡ 0 →
       Pieces (feedRule s input out .run) taken written s′ →
       Pieces s (takenOf input (feedRule s input out) ++ taken) (writtenOf (feedRule s input out) ++ written) s′
+
+-- pieces lead from one run to the other, whatever their bytes
+abbrev pub Reached : Run → Run → Type 0
+Reached s s′ = (taken : List ℕ) × ((written : List ℕ) × Pieces s taken written s′)

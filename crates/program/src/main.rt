@@ -9,6 +9,7 @@ ghost use Rattle.history.specs.Histories.{left};
 ghost use Rattle.io.specs.Counts.{clamped};
 ghost use Rattle.commands.specs.Turns.{runOf};
 ghost use Rattle.stream.specs.Feeding.{feedRule};
+ghost use Rattle.course.specs.Pieces.{Reached};
 ghost use Rattle.program.specs.Places.{opening, InBuffer, restOf, stoppedAt, goesOn, fedAt, around, fedTo, readTo};
 use hop::Header;
 use libc::STDERR_FILENO;
@@ -174,10 +175,11 @@ fn read_piece(input: &mut [u8], s: Stream) -> Place
     piece_read(got, input, s)
 }
 
-// One round: the last piece is fed on, or the next one is read.
+// One round: the last piece is fed on, or the next one is read. Tables and state go where pieces of the stream lead.
 fn round(links: &mut [u32], rows: &mut [u32], input: &mut [u8], out: &mut [u8], p: Place) -> Place
     requires { ⌜ InBuffer p (length (now input)) ⌝ }
     ensures { λ r. ⌜ InBuffer r (length (now (input .entry))) ⌝ }
+    ensures { λ r. ⌜ Reached (runOf (now (links .entry)) (now (rows .entry)) (p .stream)) (runOf (now (links .exit)) (now (rows .exit)) (r .stream)) ⌝ }
 {
     if p.waits {
         return feed_rest(links, rows, input, out, p);
@@ -187,13 +189,9 @@ fn round(links: &mut [u32], rows: &mut [u32], input: &mut [u8], out: &mut [u8], 
 
 // Round after round, and answers where the program stands then. A proved loop has to end, and nothing says that the input does: the rounds count
 // down from a number that no run uses up.
-fn serve(
-    links: &mut [u32],
-    rows: &mut [u32],
-    input: &mut [u8],
-    out: &mut [u8],
-    s: Stream,
-) -> Place {
+fn serve(links: &mut [u32], rows: &mut [u32], input: &mut [u8], out: &mut [u8], s: Stream) -> Place
+    ensures { λ r. ⌜ Reached (runOf (now (links .entry)) (now (rows .entry)) s) (runOf (now (links .exit)) (now (rows .exit)) (r .stream)) ⌝ }
+{
     let mut p = Place {
         goes: true,
         over: false,
