@@ -3,26 +3,40 @@ use core::iter::FusedIterator;
 
 use crate::{HopSlotMap, Key, Refusal, Row};
 
+/// The bounds of an iterator that has so many rows still to show, or is over: a refusal may come in place of any of them, or after the last.
+fn bounds(left: Option<u32>) -> (usize, Option<usize>) {
+    match left {
+        Some(left) => (usize::from(left > 0), usize::try_from(left).ok().and_then(|rows| rows.checked_add(1))),
+        None => (0, Some(0)),
+    }
+}
+
 /// Every live key with its row: [`HopSlotMap::iter`].
 #[derive(Clone, Debug)]
 pub struct Iter<'m, 't> {
     map: &'m HopSlotMap<'t>,
-    // Where the walk goes on; nothing after its end, or after a refusal.
-    cursor: Option<u32>,
+    // The cursor, and how many rows are still to be shown; nothing after the end, or after a refusal.
+    goes_on: Option<(u32, u32)>,
 }
 
 impl<'m, 't> Iter<'m, 't> {
     pub(crate) fn over(map: &'m HopSlotMap<'t>) -> Self {
-        Iter { map, cursor: Some(0) }
+        Iter { map, goes_on: Some((0, map.header().live)) }
     }
 
     fn step(&mut self) -> Result<Option<(Key, &'m Row)>, Refusal> {
-        let Some(cursor) = self.cursor.take() else { return Ok(None) };
-        let Some((key, next)) = self.map.hop_step(cursor)? else { return Ok(None) };
-        // A step names slots in use alone, so that the row is there.
-        let row = self.map.row(key.index).ok_or(Refusal::Shape)?;
-        self.cursor = Some(next);
-        Ok(Some((key, row)))
+        let Some((cursor, left)) = self.goes_on.take() else { return Ok(None) };
+        match (self.map.hop_step(cursor)?, left.checked_sub(1)) {
+            (Some((key, next)), Some(left)) => {
+                // A step names slots in use alone, so that the row is there.
+                let row = self.map.row(key.index).ok_or(Refusal::Shape)?;
+                self.goes_on = Some((next, left));
+                Ok(Some((key, row)))
+            }
+            (None, None) => Ok(None),
+            // One row too many, or too few: a link led past live rows, or live does not fit.
+            _ => Err(Refusal::Damaged),
+        }
     }
 }
 
@@ -31,6 +45,10 @@ impl<'m> Iterator for Iter<'m, '_> {
 
     fn next(&mut self) -> Option<Self::Item> {
         self.step().transpose()
+    }
+
+    fn size_hint(&self) -> (usize, Option<usize>) {
+        bounds(self.goes_on.map(|(_, left)| left))
     }
 }
 
@@ -61,6 +79,10 @@ impl Iterator for Keys<'_, '_> {
     fn next(&mut self) -> Option<Self::Item> {
         Some(self.0.next()?.map(|(key, _)| key))
     }
+
+    fn size_hint(&self) -> (usize, Option<usize>) {
+        self.0.size_hint()
+    }
 }
 
 impl FusedIterator for Keys<'_, '_> {}
@@ -80,6 +102,10 @@ impl<'m> Iterator for Values<'m, '_> {
 
     fn next(&mut self) -> Option<Self::Item> {
         Some(self.0.next()?.map(|(_, row)| row))
+    }
+
+    fn size_hint(&self) -> (usize, Option<usize>) {
+        self.0.size_hint()
     }
 }
 
@@ -108,6 +134,10 @@ impl Iterator for Drain<'_, '_> {
         let step = self.map.drain_step().transpose();
         self.over = !matches!(step, Some(Ok(_)));
         step
+    }
+
+    fn size_hint(&self) -> (usize, Option<usize>) {
+        bounds((!self.over).then_some(self.map.header().live))
     }
 }
 
