@@ -5,10 +5,8 @@ use std::{env, process};
 fn main() {
     println!("cargo:rerun-if-env-changed=HOP_ARCHIVE");
     let here = env::var_os("CARGO_MANIFEST_DIR").map(PathBuf::from).unwrap_or_default();
-    let folder = match env::var_os("HOP_ARCHIVE") {
-        Some(named) => PathBuf::from(named),
-        None => here.join("../../target/staticlib"),
-    };
+    // A folder that is named from here goes to the linker in full: it may run elsewhere.
+    let folder = here.join(env::var_os("HOP_ARCHIVE").unwrap_or_else(|| "../../target/staticlib".into()));
     let archive = folder.join("libhop_c.a");
     println!("cargo:rerun-if-changed={}", archive.display());
     if !archive.is_file() {

@@ -1,7 +1,8 @@
-//! Every call of the C surface over slices, for any lengths, words, header, key and cursor. What a pointer has to be, the slices see to; all else the
-//! calls themselves are proved to test. [`HopSlotMap`](crate::HopSlotMap) is made of these. They trust that the archive has this crate's layout,
-//! which [`archive_fits`] tells.
-use crate::{Header, Key, Row};
+//! The one module with unsafe code: the calls of the archive, as methods of the tables that are lent to them. Every method is sound for any lengths,
+//! words, header, key and cursor, whoever calls it. What a pointer has to be, [`Tables`] sees to; all else the archive is proved to test.
+use core::mem;
+
+use crate::{Header, Key, Row, ROW_WORDS};
 
 /// The version of [`Answer`] that this crate has.
 pub const LAYOUT: u32 = 1;
@@ -37,7 +38,10 @@ pub struct Answer {
     pub header: Header,
 }
 
-/// The functions of the archive, as the header file for C declares them.
+// Seventeen words with no gap, as the header file asserts too.
+const _: () = assert!(mem::size_of::<Answer>() == (9 + ROW_WORDS) * mem::size_of::<u32>() && mem::align_of::<Answer>() == mem::align_of::<u32>());
+
+/// The functions of the archive, as the header file for C declares them, all but `hop_look`: a row is handed out where it lies and not by value.
 mod archive {
     use super::Answer;
 
@@ -46,16 +50,6 @@ mod archive {
         pub fn hop_start(links: *mut u32, link_words: usize, rows: *mut u32, row_words: usize, used: u32, live: u32) -> Answer;
         pub fn hop_room(links: *const u32, link_words: usize, rows: *const u32, row_words: usize, used: u32, live: u32) -> Answer;
         pub fn hop_key_number(
-            links: *const u32,
-            link_words: usize,
-            rows: *const u32,
-            row_words: usize,
-            used: u32,
-            live: u32,
-            index: u32,
-            version: u32,
-        ) -> Answer;
-        pub fn hop_look(
             links: *const u32,
             link_words: usize,
             rows: *const u32,
@@ -124,131 +118,175 @@ mod archive {
     }
 }
 
-// Each call below gives the archive slices alone: no pointer is null, each leads to as many words as the length beside it says, and what may be
-// written is borrowed mutably, so that nothing overlaps and nobody else looks. That is all that the header file asks of a caller.
-
-/// Whether the archive has this crate's layout. Where it has not, no other call may be made.
-#[must_use]
-pub fn archive_fits() -> bool {
-    // SAFETY: it takes nothing and answers a number.
-    unsafe { archive::hop_layout() == LAYOUT }
+/// The two tables of a map. What the header file asks of a caller holds for each pointer that goes from here to the archive:
+/// - it comes from a slice or an array, so that it is never null, is aligned and leads to as many words as the length beside it says;
+/// - both tables are borrowed mutably for as long as this value stands, so that they overlap neither each other nor a side buffer, which is borrowed
+///   apart from them;
+/// - a method that writes has `&mut self`, so that nobody else reads or writes meanwhile, and one that reads has `&self`, so that nobody writes;
+/// - where the archive has another layout than this crate, there is no value of this type to call a method of.
+#[derive(Debug)]
+pub struct Tables<'t> {
+    links: &'t mut [u32],
+    rows: &'t mut [u32],
 }
 
-/// Makes an empty map of what is lent; any header will do.
-#[must_use]
-pub fn start(links: &mut [u32], rows: &mut [u32], header: Header) -> Answer {
-    // SAFETY: slices alone, see above.
-    unsafe { archive::hop_start(links.as_mut_ptr(), links.len(), rows.as_mut_ptr(), rows.len(), header.used, header.live) }
-}
-
-/// How many slots are lent and not live.
-#[must_use]
-pub fn room(links: &[u32], rows: &[u32], header: Header) -> Answer {
-    // SAFETY: slices alone, see above.
-    unsafe { archive::hop_room(links.as_ptr(), links.len(), rows.as_ptr(), rows.len(), header.used, header.live) }
-}
-
-/// Whether a key is live: done, or the number.
-#[must_use]
-pub fn key_number(links: &[u32], rows: &[u32], header: Header, key: Key) -> Answer {
-    // SAFETY: slices alone, see above.
-    unsafe { archive::hop_key_number(links.as_ptr(), links.len(), rows.as_ptr(), rows.len(), header.used, header.live, key.index, key.version) }
-}
-
-/// The row of a live key, by value.
-#[must_use]
-pub fn look(links: &[u32], rows: &[u32], header: Header, key: Key) -> Answer {
-    // SAFETY: slices alone, see above.
-    unsafe { archive::hop_look(links.as_ptr(), links.len(), rows.as_ptr(), rows.len(), header.used, header.live, key.index, key.version) }
-}
-
-/// The row of a live key becomes the side buffer.
-#[must_use]
-pub fn replace(links: &[u32], rows: &mut [u32], header: Header, key: Key, side: &[u32]) -> Answer {
-    // SAFETY: slices alone, see above.
-    unsafe {
-        archive::hop_replace(
-            links.as_ptr(),
-            links.len(),
-            rows.as_mut_ptr(),
-            rows.len(),
-            header.used,
-            header.live,
-            key.index,
-            key.version,
-            side.as_ptr(),
-            side.len(),
-        )
+impl<'t> Tables<'t> {
+    /// The tables, ready for calls; nothing where the archive has another layout.
+    pub fn lent(links: &'t mut [u32], rows: &'t mut [u32]) -> Option<Self> {
+        // SAFETY: it takes nothing and answers a number.
+        let layout = unsafe { archive::hop_layout() };
+        (layout == LAYOUT).then_some(Tables { links, rows })
     }
-}
 
-/// Takes a row in from the side buffer.
-#[must_use]
-pub fn insert(links: &mut [u32], rows: &mut [u32], header: Header, side: &[u32]) -> Answer {
-    // SAFETY: slices alone, see above.
-    unsafe {
-        archive::hop_insert(links.as_mut_ptr(), links.len(), rows.as_mut_ptr(), rows.len(), header.used, header.live, side.as_ptr(), side.len())
+    /// Every row where it lies.
+    pub fn rows(&self) -> &[u32] {
+        self.rows
     }
-}
 
-/// Takes the row of a live key out.
-#[must_use]
-pub fn remove(links: &mut [u32], rows: &mut [u32], header: Header, key: Key) -> Answer {
-    // SAFETY: slices alone, see above.
-    unsafe { archive::hop_remove(links.as_mut_ptr(), links.len(), rows.as_mut_ptr(), rows.len(), header.used, header.live, key.index, key.version) }
-}
-
-/// The next live slot from the cursor on.
-#[must_use]
-pub fn hop_step(links: &[u32], rows: &[u32], header: Header, cursor: u32) -> Answer {
-    // SAFETY: slices alone, see above.
-    unsafe { archive::hop_step(links.as_ptr(), links.len(), rows.as_ptr(), rows.len(), header.used, header.live, cursor) }
-}
-
-/// Takes one live row out, in a sound table that of the lowest slot.
-#[must_use]
-pub fn drain_step(links: &mut [u32], rows: &mut [u32], header: Header) -> Answer {
-    // SAFETY: slices alone, see above.
-    unsafe { archive::hop_drain_step(links.as_mut_ptr(), links.len(), rows.as_mut_ptr(), rows.len(), header.used, header.live) }
-}
-
-/// Takes every live row out, after the soundness check.
-#[must_use]
-pub fn clear(links: &mut [u32], rows: &mut [u32], header: Header) -> Answer {
-    // SAFETY: slices alone, see above.
-    unsafe { archive::hop_clear(links.as_mut_ptr(), links.len(), rows.as_mut_ptr(), rows.len(), header.used, header.live) }
-}
-
-/// One byte for each slot in use: 0 takes a live slot's row out, after the soundness check.
-#[must_use]
-pub fn retain(links: &mut [u32], rows: &mut [u32], header: Header, keep: &[u8]) -> Answer {
-    // SAFETY: slices alone, see above.
-    unsafe {
-        archive::hop_retain(links.as_mut_ptr(), links.len(), rows.as_mut_ptr(), rows.len(), header.used, header.live, keep.as_ptr(), keep.len())
+    /// Every row where it lies, to write.
+    pub fn rows_mut(&mut self) -> &mut [u32] {
+        self.rows
     }
-}
 
-/// Versions and rows that stand in place become a map again; any header will do.
-#[must_use]
-pub fn rebuild(links: &mut [u32], rows: &mut [u32], header: Header, presence: &[u8]) -> Answer {
-    // SAFETY: slices alone, see above.
-    unsafe {
-        archive::hop_rebuild(
-            links.as_mut_ptr(),
-            links.len(),
-            rows.as_mut_ptr(),
-            rows.len(),
-            header.used,
-            header.live,
-            presence.as_ptr(),
-            presence.len(),
-        )
+    /// Makes an empty map of what is lent; any header will do.
+    pub fn start(&mut self, header: Header) -> Answer {
+        // SAFETY: the tables alone, see `Tables`.
+        unsafe { archive::hop_start(self.links.as_mut_ptr(), self.links.len(), self.rows.as_mut_ptr(), self.rows.len(), header.used, header.live) }
     }
-}
 
-/// The soundness check.
-#[must_use]
-pub fn sound(links: &[u32], rows: &[u32], header: Header) -> Answer {
-    // SAFETY: slices alone, see above.
-    unsafe { archive::hop_sound(links.as_ptr(), links.len(), rows.as_ptr(), rows.len(), header.used, header.live) }
+    /// How many slots are lent and not live.
+    pub fn room(&self, header: Header) -> Answer {
+        // SAFETY: the tables alone, see `Tables`.
+        unsafe { archive::hop_room(self.links.as_ptr(), self.links.len(), self.rows.as_ptr(), self.rows.len(), header.used, header.live) }
+    }
+
+    /// Whether a key is live: done, or the number.
+    pub fn key_number(&self, header: Header, key: Key) -> Answer {
+        // SAFETY: the tables alone, see `Tables`.
+        unsafe {
+            archive::hop_key_number(
+                self.links.as_ptr(),
+                self.links.len(),
+                self.rows.as_ptr(),
+                self.rows.len(),
+                header.used,
+                header.live,
+                key.index,
+                key.version,
+            )
+        }
+    }
+
+    /// The row of a live key becomes another.
+    pub fn replace(&mut self, header: Header, key: Key, side: &Row) -> Answer {
+        // SAFETY: the tables and a row beside them, see `Tables`.
+        unsafe {
+            archive::hop_replace(
+                self.links.as_ptr(),
+                self.links.len(),
+                self.rows.as_mut_ptr(),
+                self.rows.len(),
+                header.used,
+                header.live,
+                key.index,
+                key.version,
+                side.as_ptr(),
+                side.len(),
+            )
+        }
+    }
+
+    /// Takes a row in.
+    pub fn insert(&mut self, header: Header, side: &Row) -> Answer {
+        // SAFETY: the tables and a row beside them, see `Tables`.
+        unsafe {
+            archive::hop_insert(
+                self.links.as_mut_ptr(),
+                self.links.len(),
+                self.rows.as_mut_ptr(),
+                self.rows.len(),
+                header.used,
+                header.live,
+                side.as_ptr(),
+                side.len(),
+            )
+        }
+    }
+
+    /// Takes the row of a live key out.
+    pub fn remove(&mut self, header: Header, key: Key) -> Answer {
+        // SAFETY: the tables alone, see `Tables`.
+        unsafe {
+            archive::hop_remove(
+                self.links.as_mut_ptr(),
+                self.links.len(),
+                self.rows.as_mut_ptr(),
+                self.rows.len(),
+                header.used,
+                header.live,
+                key.index,
+                key.version,
+            )
+        }
+    }
+
+    /// The next live slot from the cursor on.
+    pub fn hop_step(&self, header: Header, cursor: u32) -> Answer {
+        // SAFETY: the tables alone, see `Tables`.
+        unsafe { archive::hop_step(self.links.as_ptr(), self.links.len(), self.rows.as_ptr(), self.rows.len(), header.used, header.live, cursor) }
+    }
+
+    /// Takes one live row out, in a sound table that of the lowest slot.
+    pub fn drain_step(&mut self, header: Header) -> Answer {
+        // SAFETY: the tables alone, see `Tables`.
+        unsafe {
+            archive::hop_drain_step(self.links.as_mut_ptr(), self.links.len(), self.rows.as_mut_ptr(), self.rows.len(), header.used, header.live)
+        }
+    }
+
+    /// Takes every live row out, after the soundness check.
+    pub fn clear(&mut self, header: Header) -> Answer {
+        // SAFETY: the tables alone, see `Tables`.
+        unsafe { archive::hop_clear(self.links.as_mut_ptr(), self.links.len(), self.rows.as_mut_ptr(), self.rows.len(), header.used, header.live) }
+    }
+
+    /// One byte for each slot in use: 0 takes a live slot's row out, after the soundness check.
+    pub fn retain(&mut self, header: Header, keep: &[u8]) -> Answer {
+        // SAFETY: the tables and bytes beside them, see `Tables`.
+        unsafe {
+            archive::hop_retain(
+                self.links.as_mut_ptr(),
+                self.links.len(),
+                self.rows.as_mut_ptr(),
+                self.rows.len(),
+                header.used,
+                header.live,
+                keep.as_ptr(),
+                keep.len(),
+            )
+        }
+    }
+
+    /// Versions and rows that stand in place become a map again; any header will do.
+    pub fn rebuild(&mut self, header: Header, presence: &[u8]) -> Answer {
+        // SAFETY: the tables and bytes beside them, see `Tables`.
+        unsafe {
+            archive::hop_rebuild(
+                self.links.as_mut_ptr(),
+                self.links.len(),
+                self.rows.as_mut_ptr(),
+                self.rows.len(),
+                header.used,
+                header.live,
+                presence.as_ptr(),
+                presence.len(),
+            )
+        }
+    }
+
+    /// The soundness check.
+    pub fn sound(&self, header: Header) -> Answer {
+        // SAFETY: the tables alone, see `Tables`.
+        unsafe { archive::hop_sound(self.links.as_ptr(), self.links.len(), self.rows.as_ptr(), self.rows.len(), header.used, header.live) }
+    }
 }

@@ -20,17 +20,22 @@
 //! # For users of slotmap
 //!
 //! The methods have slotmap's names. What differs:
-//! - The map borrows its tables: four link words and a row of eight words for each slot, slot 0 among them, at most [`LIMIT`] slots. A row is the value.
-//! - What slotmap would grow or panic at is a [`Refusal`], and so is damage: [`insert`](HopSlotMap::insert) at a full table, any call on a table whose
-//!   words were changed from outside. A refused call changes no word.
+//! - The map borrows its tables: four link words and a row of eight words for each slot, slot 0 among them, at most [`LIMIT`] slots. The row is the
+//!   value.
+//! - What slotmap would grow or panic at is a [`Refusal`], and so is damage: [`insert`](HopSlotMap::insert) into a full table, any call on a table
+//!   whose words were changed from outside. A refused call changes no word.
 //! - [`remove`](HopSlotMap::remove) answers a `Result` where slotmap has an `Option`: a row that is still there must not look like one that was gone.
-//! - [`iter`](HopSlotMap::iter), [`keys`](HopSlotMap::keys), [`values`](HopSlotMap::values) and [`drain`](HopSlotMap::drain) give `Result`s: a walk over a
-//!   damaged table shows the refusal, once, and ends.
+//! - [`iter`](HopSlotMap::iter), [`keys`](HopSlotMap::keys), [`values`](HopSlotMap::values) and [`drain`](HopSlotMap::drain) give `Result`s: a walk
+//!   over a damaged table shows the refusal, once, and ends.
 //! - [`retain`](HopSlotMap::retain) asks the closure about every row before it removes the first, and answers how many went.
 //! - [`Key::from_ffi`] keeps every bit.
+//!
+//! docs/DIFFERENCES.md of the repository has them all.
 #![no_std]
+#![deny(unsafe_code)]
 
-pub mod calls;
+#[allow(unsafe_code)]
+mod calls;
 mod key;
 mod map;
 mod refusal;

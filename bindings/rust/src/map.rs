@@ -1,22 +1,21 @@
 //! The map.
-use crate::calls::{self, Answer};
+use crate::calls::{self, Answer, Tables};
 use crate::walks::{Drain, Iter, Keys, Values};
 use crate::{Header, Key, Refusal, Row, LIMIT, ROW_WORDS};
 
 /// A slot map over two lent tables. It keeps the header; the tables are free again when it is dropped, with every row where it was.
 #[derive(Debug)]
 pub struct HopSlotMap<'t> {
-    links: &'t mut [u32],
-    rows: &'t mut [u32],
+    tables: Tables<'t>,
     header: Header,
 }
 
 /// The answer where the call was not refused.
 fn unrefused(answer: Answer) -> Result<Answer, Refusal> {
-    if answer.kind == calls::ANSWER || answer.kind == calls::DONE {
-        Ok(answer)
-    } else {
-        Err(Refusal::of_number(answer.number))
+    match answer.kind {
+        calls::ANSWER | calls::DONE => Ok(answer),
+        calls::REFUSED => Err(Refusal::of_number(answer.number)),
+        _ => Err(Refusal::OtherArchive),
     }
 }
 
@@ -36,17 +35,8 @@ fn row_at_mut(rows: &mut [u32], index: u32) -> Option<&mut Row> {
     rows.get_mut(place(index)?)?.try_into().ok()
 }
 
-/// Nothing is called before the archive is known to be of this crate's version.
-fn fitting() -> Result<(), Refusal> {
-    if calls::archive_fits() {
-        Ok(())
-    } else {
-        Err(Refusal::OtherArchive)
-    }
-}
-
 impl<'t> HopSlotMap<'t> {
-    /// An empty map of what is lent, whatever words were there: start, of the map's own names.
+    /// An empty map of what is lent, whatever words were there. The language of the map calls this start.
     ///
     /// ```
     /// use hop::{HopSlotMap, Refusal};
@@ -57,11 +47,11 @@ impl<'t> HopSlotMap<'t> {
     /// ```
     ///
     /// # Errors
-    /// [`Refusal::Shape`]: not 4 link words and 8 row words for each of 1 to [`LIMIT`] slots.
+    /// [`Refusal::Shape`]: not 4 link words and 8 row words for each of 1 to [`LIMIT`] slots. [`Refusal::OtherArchive`].
     pub fn new(links: &'t mut [u32], rows: &'t mut [u32]) -> Result<Self, Refusal> {
-        fitting()?;
-        let answer = unrefused(calls::start(links, rows, Header::default()))?;
-        Ok(HopSlotMap { links, rows, header: answer.header })
+        let mut map = Self::with_header(links, rows, Header::default())?;
+        map.header = unrefused(map.tables.start(map.header))?.header;
+        Ok(map)
     }
 
     /// A map again of versions and rows that stand in place, with one presence byte for each slot that is to be in use: 1 where it is occupied. Links
@@ -78,11 +68,11 @@ impl<'t> HopSlotMap<'t> {
     /// ```
     ///
     /// # Errors
-    /// [`Refusal::Shape`], [`Refusal::WrongPresence`], [`Refusal::ZeroOccupied`].
+    /// [`Refusal::Shape`], [`Refusal::WrongPresence`], [`Refusal::ZeroOccupied`], [`Refusal::OtherArchive`].
     pub fn rebuild(links: &'t mut [u32], rows: &'t mut [u32], presence: &[u8]) -> Result<Self, Refusal> {
-        fitting()?;
-        let answer = unrefused(calls::rebuild(links, rows, Header::default(), presence))?;
-        Ok(HopSlotMap { links, rows, header: answer.header })
+        let mut map = Self::with_header(links, rows, Header::default())?;
+        map.header = unrefused(map.tables.rebuild(map.header, presence))?.header;
+        Ok(map)
     }
 
     /// A map over tables as an earlier one left them, with the header that it had. Nothing is looked at: every call tests what it needs, and
@@ -101,43 +91,95 @@ impl<'t> HopSlotMap<'t> {
     /// # Errors
     /// [`Refusal::OtherArchive`] alone.
     pub fn with_header(links: &'t mut [u32], rows: &'t mut [u32], header: Header) -> Result<Self, Refusal> {
-        fitting()?;
-        Ok(HopSlotMap { links, rows, header })
+        let tables = Tables::lent(links, rows).ok_or(Refusal::OtherArchive)?;
+        Ok(HopSlotMap { tables, header })
     }
 
-    /// The header that the last call handed back.
+    /// The header that the last call handed back. Keep it beside the tables: [`with_header`](Self::with_header) takes both up again.
+    ///
+    /// ```
+    /// use hop::{Header, HopSlotMap, Refusal};
+    /// let (mut links, mut rows) = ([0; 16], [0; 32]);
+    /// let mut map = HopSlotMap::new(&mut links, &mut rows)?;
+    /// map.insert([1; 8])?;
+    /// assert_eq!(map.header(), Header { used: 2, live: 1 });
+    /// # Ok::<(), Refusal>(())
+    /// ```
     #[must_use]
     pub fn header(&self) -> Header {
         self.header
     }
 
     /// How many rows are live.
+    ///
+    /// ```
+    /// use hop::{HopSlotMap, Refusal};
+    /// let (mut links, mut rows) = ([0; 16], [0; 32]);
+    /// let mut map = HopSlotMap::new(&mut links, &mut rows)?;
+    /// assert_eq!(map.len(), 0);
+    /// map.insert([1; 8])?;
+    /// assert_eq!(map.len(), 1);
+    /// # Ok::<(), Refusal>(())
+    /// ```
     #[must_use]
     pub fn len(&self) -> usize {
         usize::try_from(self.header.live).unwrap_or(usize::MAX)
     }
 
     /// Whether no row is live.
+    ///
+    /// ```
+    /// use hop::{HopSlotMap, Refusal};
+    /// let (mut links, mut rows) = ([0; 16], [0; 32]);
+    /// let mut map = HopSlotMap::new(&mut links, &mut rows)?;
+    /// assert!(map.is_empty());
+    /// map.insert([1; 8])?;
+    /// assert!(!map.is_empty());
+    /// # Ok::<(), Refusal>(())
+    /// ```
     #[must_use]
     pub fn is_empty(&self) -> bool {
         self.header.live == 0
     }
 
-    /// How many slots are lent and not live, slot 0 among them.
+    /// How many slots are lent and not live, slot 0 among them: one more than the rows that still fit.
+    ///
+    /// ```
+    /// use hop::{HopSlotMap, Refusal};
+    /// let (mut links, mut rows) = ([0; 16], [0; 32]);
+    /// let mut map = HopSlotMap::new(&mut links, &mut rows)?;
+    /// assert_eq!(map.room(), Ok(4));
+    /// map.insert([1; 8])?;
+    /// assert_eq!(map.room(), Ok(3));
+    /// # Ok::<(), Refusal>(())
+    /// ```
     ///
     /// # Errors
     /// [`Refusal::Shape`], [`Refusal::Damaged`].
     pub fn room(&self) -> Result<usize, Refusal> {
-        let answer = unrefused(calls::room(self.links, self.rows, self.header))?;
+        let answer = unrefused(self.tables.room(self.header))?;
         Ok(usize::try_from(answer.count).unwrap_or(usize::MAX))
     }
 
     /// The soundness check: passes exactly the sound tables.
     ///
+    /// ```
+    /// use hop::{HopSlotMap, Refusal};
+    /// let (mut links, mut rows) = ([0; 16], [0; 32]);
+    /// let mut map = HopSlotMap::new(&mut links, &mut rows)?;
+    /// map.insert([1; 8])?;
+    /// assert_eq!(map.sound(), Ok(()));
+    ///
+    /// let header = map.header();
+    /// links[3] = 1; // other_end of slot 0 leads to an occupied slot
+    /// assert_eq!(HopSlotMap::with_header(&mut links, &mut rows, header)?.sound(), Err(Refusal::Damaged));
+    /// # Ok::<(), Refusal>(())
+    /// ```
+    ///
     /// # Errors
     /// [`Refusal::Shape`], [`Refusal::Damaged`].
     pub fn sound(&self) -> Result<(), Refusal> {
-        unrefused(calls::sound(self.links, self.rows, self.header)).map(|_| ())
+        unrefused(self.tables.sound(self.header)).map(|_| ())
     }
 
     /// Takes a row in, and answers its key.
@@ -155,7 +197,7 @@ impl<'t> HopSlotMap<'t> {
     /// # Errors
     /// [`Refusal::Full`], where slotmap would grow; [`Refusal::Shape`], [`Refusal::Damaged`].
     pub fn insert(&mut self, row: Row) -> Result<Key, Refusal> {
-        let answer = unrefused(calls::insert(self.links, self.rows, self.header, &row))?;
+        let answer = unrefused(self.tables.insert(self.header, &row))?;
         self.header = answer.header;
         Ok(answer.key)
     }
@@ -175,33 +217,66 @@ impl<'t> HopSlotMap<'t> {
     /// # Errors
     /// [`Refusal::EvenVersion`], [`Refusal::NotLive`], [`Refusal::Shape`], [`Refusal::Damaged`].
     pub fn remove(&mut self, key: Key) -> Result<Row, Refusal> {
-        let answer = unrefused(calls::remove(self.links, self.rows, self.header, key))?;
+        let answer = unrefused(self.tables.remove(self.header, key))?;
         self.header = answer.header;
         Ok(answer.row)
     }
 
-    /// Whether a key is live; where it is not, which number says so.
+    /// Whether a key is live; where it is not, why.
+    ///
+    /// ```
+    /// use hop::{HopSlotMap, Key, Refusal};
+    /// let (mut links, mut rows) = ([0; 16], [0; 32]);
+    /// let mut map = HopSlotMap::new(&mut links, &mut rows)?;
+    /// let key = map.insert([1; 8])?;
+    /// assert_eq!(map.check_key(key), Ok(()));
+    /// assert_eq!(map.check_key(Key { index: 1, version: 2 }), Err(Refusal::EvenVersion));
+    /// assert_eq!(map.check_key(Key::null()), Err(Refusal::NotLive));
+    /// # Ok::<(), Refusal>(())
+    /// ```
     ///
     /// # Errors
     /// [`Refusal::EvenVersion`], [`Refusal::NotLive`], [`Refusal::Shape`], [`Refusal::Damaged`].
     pub fn check_key(&self, key: Key) -> Result<(), Refusal> {
-        unrefused(calls::key_number(self.links, self.rows, self.header, key)).map(|_| ())
+        unrefused(self.tables.key_number(self.header, key)).map(|_| ())
     }
 
-    /// Whether a key is live.
+    /// Whether a key is live. `false` for any refusal: [`check_key`](Self::check_key) names it.
+    ///
+    /// ```
+    /// use hop::{HopSlotMap, Refusal};
+    /// let (mut links, mut rows) = ([0; 16], [0; 32]);
+    /// let mut map = HopSlotMap::new(&mut links, &mut rows)?;
+    /// let key = map.insert([1; 8])?;
+    /// assert!(map.contains_key(key));
+    /// map.remove(key)?;
+    /// assert!(!map.contains_key(key));
+    /// # Ok::<(), Refusal>(())
+    /// ```
     #[must_use]
     pub fn contains_key(&self, key: Key) -> bool {
         self.check_key(key).is_ok()
     }
 
-    /// The row of a live key, where it lies. [`check_key`](Self::check_key) names the number where there is none.
+    /// The row of a live key, where it lies. `None` for any refusal: [`check_key`](Self::check_key) names it.
+    ///
+    /// ```
+    /// use hop::{HopSlotMap, Refusal};
+    /// let (mut links, mut rows) = ([0; 16], [0; 32]);
+    /// let mut map = HopSlotMap::new(&mut links, &mut rows)?;
+    /// let key = map.insert([1; 8])?;
+    /// assert_eq!(map.get(key), Some(&[1; 8]));
+    /// map.remove(key)?;
+    /// assert_eq!(map.get(key), None);
+    /// # Ok::<(), Refusal>(())
+    /// ```
     #[must_use]
     pub fn get(&self, key: Key) -> Option<&Row> {
         self.check_key(key).ok()?;
-        row_at(self.rows, key.index)
+        row_at(self.tables.rows(), key.index)
     }
 
-    /// The row of a live key, where it lies, to write.
+    /// The row of a live key, where it lies, to write. `None` for any refusal: [`check_key`](Self::check_key) names it.
     ///
     /// ```
     /// use hop::{HopSlotMap, Refusal};
@@ -216,19 +291,29 @@ impl<'t> HopSlotMap<'t> {
     /// ```
     pub fn get_mut(&mut self, key: Key) -> Option<&mut Row> {
         self.check_key(key).ok()?;
-        row_at_mut(self.rows, key.index)
+        row_at_mut(self.tables.rows_mut(), key.index)
     }
 
-    /// The row of a live key becomes another.
+    /// The row of a live key becomes another. The key stays live.
+    ///
+    /// ```
+    /// use hop::{HopSlotMap, Refusal};
+    /// let (mut links, mut rows) = ([0; 16], [0; 32]);
+    /// let mut map = HopSlotMap::new(&mut links, &mut rows)?;
+    /// let key = map.insert([1; 8])?;
+    /// map.replace(key, [2; 8])?;
+    /// assert_eq!(map.get(key), Some(&[2; 8]));
+    /// # Ok::<(), Refusal>(())
+    /// ```
     ///
     /// # Errors
     /// [`Refusal::EvenVersion`], [`Refusal::NotLive`], [`Refusal::Shape`], [`Refusal::Damaged`].
     pub fn replace(&mut self, key: Key, row: Row) -> Result<(), Refusal> {
-        unrefused(calls::replace(self.links, self.rows, self.header, key, &row)).map(|_| ())
+        unrefused(self.tables.replace(self.header, key, &row)).map(|_| ())
     }
 
-    /// One step of a walk: the next live slot from the cursor on, and the cursor to go on from. A walk starts at 0. The cursor borrows nothing: after a
-    /// removal it may be stale.
+    /// One step of a walk: the next live slot from the cursor on, and the cursor to go on from. A walk starts at 0. The cursor borrows nothing: after
+    /// a removal it may be stale.
     ///
     /// ```
     /// use hop::{HopSlotMap, Refusal};
@@ -244,31 +329,52 @@ impl<'t> HopSlotMap<'t> {
     /// # Errors
     /// [`Refusal::StaleCursor`], [`Refusal::Shape`], [`Refusal::Damaged`].
     pub fn hop_step(&self, cursor: u32) -> Result<Option<(Key, u32)>, Refusal> {
-        let answer = unrefused(calls::hop_step(self.links, self.rows, self.header, cursor))?;
+        let answer = unrefused(self.tables.hop_step(self.header, cursor))?;
         Ok((answer.kind == calls::ANSWER).then_some((answer.key, answer.cursor)))
     }
 
-    /// One step of a drain: takes the live row of the lowest slot out.
+    /// One step of a drain: takes the live row of the lowest slot out; `None` where none is live.
+    ///
+    /// ```
+    /// use hop::{HopSlotMap, Refusal};
+    /// let (mut links, mut rows) = ([0; 16], [0; 32]);
+    /// let mut map = HopSlotMap::new(&mut links, &mut rows)?;
+    /// let key = map.insert([1; 8])?;
+    /// assert_eq!(map.drain_step(), Ok(Some((key, [1; 8]))));
+    /// assert_eq!(map.drain_step(), Ok(None));
+    /// # Ok::<(), Refusal>(())
+    /// ```
     ///
     /// # Errors
     /// [`Refusal::Shape`], [`Refusal::Damaged`].
     pub fn drain_step(&mut self) -> Result<Option<(Key, Row)>, Refusal> {
-        let answer = unrefused(calls::drain_step(self.links, self.rows, self.header))?;
+        let answer = unrefused(self.tables.drain_step(self.header))?;
         self.header = answer.header;
         Ok((answer.kind == calls::ANSWER).then_some((answer.key, answer.row)))
     }
 
-    /// Takes every row out.
+    /// Takes every row out. Every key is dead from now on.
+    ///
+    /// ```
+    /// use hop::{HopSlotMap, Refusal};
+    /// let (mut links, mut rows) = ([0; 16], [0; 32]);
+    /// let mut map = HopSlotMap::new(&mut links, &mut rows)?;
+    /// let key = map.insert([1; 8])?;
+    /// map.clear()?;
+    /// assert!(map.is_empty());
+    /// assert_eq!(map.get(key), None);
+    /// # Ok::<(), Refusal>(())
+    /// ```
     ///
     /// # Errors
     /// [`Refusal::Shape`], [`Refusal::Damaged`]: the whole table is tested first.
     pub fn clear(&mut self) -> Result<(), Refusal> {
-        self.header = unrefused(calls::clear(self.links, self.rows, self.header))?.header;
+        self.header = unrefused(self.tables.clear(self.header))?.header;
         Ok(())
     }
 
-    /// Takes out every row that the closure answers `false` for, and answers how many. It is asked in rising order of slots, about every row before the first one
-    /// goes, and may write the rows. Where the table is not sound it is not asked at all.
+    /// Takes out every row that the closure answers `false` for, and answers how many. It is asked in rising order of slots, about every row before
+    /// the first one goes, and may write the rows. Where the table is not sound it is not asked at all; where it panics no row goes.
     ///
     /// ```
     /// use hop::{HopSlotMap, Refusal};
@@ -291,18 +397,19 @@ impl<'t> HopSlotMap<'t> {
         let mut cursor = 0;
         while let Some((key, next)) = self.hop_step(cursor)? {
             cursor = next;
-            if let (Some(row), Some(byte)) = (row_at_mut(self.rows, key.index), byte_at(&mut keep, key.index)) {
+            if let (Some(row), Some(byte)) = (row_at_mut(self.tables.rows_mut(), key.index), byte_at(&mut keep, key.index)) {
                 *byte = u8::from(keeps(key, row));
             }
         }
         let used = usize::try_from(self.header.used).unwrap_or(usize::MAX);
         let keep = keep.get(..used).ok_or(Refusal::Shape)?;
-        let answer = unrefused(calls::retain(self.links, self.rows, self.header, keep))?;
+        let answer = unrefused(self.tables.retain(self.header, keep))?;
         self.header = answer.header;
         Ok(usize::try_from(answer.count).unwrap_or(usize::MAX))
     }
 
-    /// Every live key with its row, in rising order of slots. Over a damaged table the refusal is an item, the last one.
+    /// Every live key with its row, in rising order of slots. Over a damaged table the walk does not just end: the refusal is an item, the last one.
+    /// Where there is none, the walk has shown [`len`](Self::len) rows.
     ///
     /// ```
     /// use hop::{Header, HopSlotMap, Refusal};
@@ -328,20 +435,39 @@ impl<'t> HopSlotMap<'t> {
         Iter::over(self)
     }
 
-    /// Every live key, in rising order of slots.
+    /// Every live key, in rising order of slots, like [`iter`](Self::iter).
+    ///
+    /// ```
+    /// use hop::{HopSlotMap, Refusal};
+    /// let (mut links, mut rows) = ([0; 16], [0; 32]);
+    /// let mut map = HopSlotMap::new(&mut links, &mut rows)?;
+    /// let keys = [map.insert([1; 8])?, map.insert([2; 8])?];
+    /// assert_eq!(map.keys().collect::<Result<Vec<_>, _>>()?, keys);
+    /// # Ok::<(), Refusal>(())
+    /// ```
     #[must_use]
     pub fn keys(&self) -> Keys<'_, 't> {
         Keys::over(self)
     }
 
-    /// Every live row, in rising order of slots.
+    /// Every live row, in rising order of slots, like [`iter`](Self::iter).
+    ///
+    /// ```
+    /// use hop::{HopSlotMap, Refusal};
+    /// let (mut links, mut rows) = ([0; 16], [0; 32]);
+    /// let mut map = HopSlotMap::new(&mut links, &mut rows)?;
+    /// map.insert([1; 8])?;
+    /// map.insert([2; 8])?;
+    /// assert_eq!(map.values().collect::<Result<Vec<_>, _>>()?, [&[1; 8], &[2; 8]]);
+    /// # Ok::<(), Refusal>(())
+    /// ```
     #[must_use]
     pub fn values(&self) -> Values<'_, 't> {
         Values::over(self)
     }
 
-    /// Takes every row out, in rising order of slots, and gives them with their keys. As in slotmap, what was not asked for goes when the iterator is dropped; a
-    /// refusal ends it, and what is left then stays.
+    /// Takes every row out, in rising order of slots, and gives them with their keys. As in slotmap, what was not asked for goes when the iterator is
+    /// dropped; a refusal ends it, and what is left then stays.
     ///
     /// ```
     /// use hop::{HopSlotMap, Refusal};
@@ -359,7 +485,7 @@ impl<'t> HopSlotMap<'t> {
 
     /// The row of a slot that a step has just named.
     pub(crate) fn row(&self, index: u32) -> Option<&Row> {
-        row_at(self.rows, index)
+        row_at(self.tables.rows(), index)
     }
 }
 
