@@ -1,7 +1,8 @@
 //! Keys.
 use core::fmt;
 
-/// A slot's index and a version. A key is live where the index is below the slots in use and the version is odd and the slot's own.
+/// A slot's index and a version. A key is live where the index is below the slots in use and the version is odd and the slot's own. Keys are in order
+/// by index, then by version, as slotmap's are.
 ///
 /// It prints as slotmap's keys do:
 ///
@@ -21,19 +22,38 @@ pub struct Key {
 }
 
 impl Key {
-    /// A key that is never live: its index is past any table.
+    /// A key that is never live: its index is past any table. It is the default.
+    ///
+    /// ```
+    /// use hop::{HopSlotMap, Key, Refusal};
+    /// let (mut links, mut rows) = ([0; 16], [0; 32]);
+    /// let map = HopSlotMap::new(&mut links, &mut rows)?;
+    /// assert_eq!(Key::null(), Key::default());
+    /// assert_eq!(map.check_key(Key::null()), Err(Refusal::NotLive));
+    /// # Ok::<(), Refusal>(())
+    /// ```
     #[must_use]
     pub const fn null() -> Self {
         Key { index: u32::MAX, version: 1 }
     }
 
-    /// Whether the index is that of the null key.
+    /// Whether the index is that of the null key, as slotmap has it. No key that was handed out is null.
+    ///
+    /// ```
+    /// use hop::Key;
+    /// assert!(Key::null().is_null());
+    /// assert!(!Key { index: 1, version: 1 }.is_null());
+    /// ```
     #[must_use]
     pub const fn is_null(self) -> bool {
         self.index == u32::MAX
     }
 
     /// The key as one word, in slotmap's layout: the version in the upper half, the index in the lower.
+    ///
+    /// ```
+    /// assert_eq!(hop::Key { index: 1, version: 3 }.as_ffi(), 0x3_0000_0001);
+    /// ```
     #[must_use]
     pub const fn as_ffi(self) -> u64 {
         (self.version as u64) << 32 | self.index as u64
