@@ -1,4 +1,4 @@
-//! Every method on tables of any words, any lengths and any header: it returns, and where it refuses, no word has changed and the header is as it was.
+//! Every method on tables of any words, any lengths and any header: it returns, and where it refuses, no word has changed, nor the header.
 #![allow(clippy::unwrap_used, clippy::indexing_slicing, clippy::arithmetic_side_effects)]
 mod words;
 
