@@ -1,6 +1,6 @@
 //! A slot map for deck electronics, proved: `HopSlotMap` of slotmap 1.1.1 over tables that the caller lends, in the language Rattle, with every
-//! function proved to meet its contract on every input. This crate is its surface for Rust, over the archive for C; it adds no rule of its own, needs
-//! no allocator and no other crate, and no input makes it panic.
+//! function proved to meet its contract on every input. This crate is its surface for Rust, over the archive for C. It adds one rule of its own, that
+//! a walk counts its rows; it needs no allocator and no other crate, and no input makes it panic.
 //!
 //! ```
 //! use hop::{HopSlotMap, Refusal};
