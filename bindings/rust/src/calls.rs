@@ -1,5 +1,6 @@
-//! The one module with unsafe code: the calls of the archive, as methods of the tables that are lent to them. Every method is sound for any lengths,
-//! words, header, key and cursor, whoever calls it. What a pointer has to be, [`Tables`] sees to; all else the archive is proved to test.
+//! The calls of the archive, as methods of the tables that are lent to them, with every word of their answers: what [`HopSlotMap`](crate::HopSlotMap) is
+//! made of. It is the one module with unsafe code. Every method is sound for any lengths, words, header, key and cursor, whoever calls it. What a pointer
+//! has to be, [`Tables`] sees to; all else the archive is proved to test.
 use core::mem;
 
 use crate::{Header, Key, Row, ROW_WORDS};
@@ -17,6 +18,7 @@ pub const DONE: u32 = 1;
 pub const REFUSED: u32 = 2;
 
 /// What every call answers. What a case does not name is zero.
+#[must_use = "it has the number where the call was refused, and the header for the next call"]
 #[repr(C)]
 #[derive(Clone, Copy, Debug, PartialEq, Eq)]
 pub struct Answer {
@@ -41,7 +43,7 @@ pub struct Answer {
 // Seventeen words with no gap, as the header file asserts too.
 const _: () = assert!(mem::size_of::<Answer>() == (9 + ROW_WORDS) * mem::size_of::<u32>() && mem::align_of::<Answer>() == mem::align_of::<u32>());
 
-/// The functions of the archive, as the header file for C declares them, all but `hop_look`: a row is handed out where it lies and not by value.
+/// The functions of the archive, as the header file for C declares them.
 mod archive {
     use super::Answer;
 
@@ -50,6 +52,16 @@ mod archive {
         pub fn hop_start(links: *mut u32, link_words: usize, rows: *mut u32, row_words: usize, used: u32, live: u32) -> Answer;
         pub fn hop_room(links: *const u32, link_words: usize, rows: *const u32, row_words: usize, used: u32, live: u32) -> Answer;
         pub fn hop_key_number(
+            links: *const u32,
+            link_words: usize,
+            rows: *const u32,
+            row_words: usize,
+            used: u32,
+            live: u32,
+            index: u32,
+            version: u32,
+        ) -> Answer;
+        pub fn hop_look(
             links: *const u32,
             link_words: usize,
             rows: *const u32,
@@ -139,6 +151,7 @@ impl<'t> Tables<'t> {
     }
 
     /// Every row where it lies.
+    #[must_use]
     pub fn rows(&self) -> &[u32] {
         self.rows
     }
@@ -177,9 +190,26 @@ impl<'t> Tables<'t> {
         }
     }
 
-    /// The row of a live key becomes another.
-    pub fn replace(&mut self, header: Header, key: Key, side: &Row) -> Answer {
-        // SAFETY: the tables and a row beside them, see `Tables`.
+    /// The row of a live key, by value.
+    pub fn look(&self, header: Header, key: Key) -> Answer {
+        // SAFETY: the tables alone, see `Tables`.
+        unsafe {
+            archive::hop_look(
+                self.links.as_ptr(),
+                self.links.len(),
+                self.rows.as_ptr(),
+                self.rows.len(),
+                header.used,
+                header.live,
+                key.index,
+                key.version,
+            )
+        }
+    }
+
+    /// The row of a live key becomes the side buffer.
+    pub fn replace(&mut self, header: Header, key: Key, side: &[u32]) -> Answer {
+        // SAFETY: the tables and a side buffer beside them, see `Tables`.
         unsafe {
             archive::hop_replace(
                 self.links.as_ptr(),
@@ -196,9 +226,9 @@ impl<'t> Tables<'t> {
         }
     }
 
-    /// Takes a row in.
-    pub fn insert(&mut self, header: Header, side: &Row) -> Answer {
-        // SAFETY: the tables and a row beside them, see `Tables`.
+    /// Takes a row in from the side buffer.
+    pub fn insert(&mut self, header: Header, side: &[u32]) -> Answer {
+        // SAFETY: the tables and a side buffer beside them, see `Tables`.
         unsafe {
             archive::hop_insert(
                 self.links.as_mut_ptr(),

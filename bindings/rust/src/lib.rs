@@ -35,7 +35,7 @@
 #![deny(unsafe_code)]
 
 #[allow(unsafe_code)]
-mod calls;
+pub mod calls;
 mod key;
 mod map;
 mod refusal;
