@@ -3,8 +3,11 @@
 use std::fmt::{self, Write};
 use std::mem;
 
+mod straight;
+
 pub use mended;
 pub use slotmap;
+pub use straight::Straight;
 
 /// A slot's index and a version.
 pub type Key = (u32, u32);
