@@ -4,9 +4,10 @@ use hop::Row;
 /// How many rows the maps hold at most.
 pub const ROWS: usize = 1_000;
 
-/// Rows, and an order of their places that has nothing to do with slots.
+/// Rows, as many others, and an order of their places that has nothing to do with slots.
 pub struct Fixed {
     pub rows: Vec<Row>,
+    pub others: Vec<Row>,
     pub order: Vec<usize>,
 }
 
@@ -32,6 +33,8 @@ pub fn rows(count: usize) -> Vec<Row> {
 
 impl Fixed {
     pub fn new() -> Self {
-        Fixed { rows: rows(ROWS), order: shuffled(ROWS, 1) }
+        let rows = rows(ROWS);
+        let others = rows.iter().map(|row| row.map(|word| word + 7)).collect();
+        Fixed { rows, others, order: shuffled(ROWS, 1) }
     }
 }

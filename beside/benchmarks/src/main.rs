@@ -11,6 +11,7 @@ mod rounds;
 mod table;
 mod works;
 
+use std::process::ExitCode;
 use std::{env, fs, thread};
 
 use crate::beside::Entry;
@@ -43,10 +44,20 @@ fn measured(fixed: &'static Fixed) -> Result<Figures, Stop> {
     Ok(Figures { beside: beside.iter().flat_map(Entry::lines).collect(), per_slot, toll: toll.figures().into_iter().sum() })
 }
 
-fn main() -> Result<(), Stop> {
+fn run() -> Result<(), Stop> {
     let (file, setting) = asked()?;
     let figures = measured(Box::leak(Box::new(Fixed::new())))?;
     print!("{}", figures.tables());
-    fs::write(file, document(&setting, &figures))?;
+    fs::write(&file, document(&setting, &figures)).map_err(|error| format!("{file}: {error}"))?;
     Ok(())
+}
+
+fn main() -> ExitCode {
+    match run() {
+        Ok(()) => ExitCode::SUCCESS,
+        Err(stop) => {
+            eprintln!("benchmarks: {stop}");
+            ExitCode::FAILURE
+        }
+    }
 }

@@ -63,13 +63,18 @@ pub fn timed<T, E>(work: impl FnOnce() -> Result<T, E>) -> Result<(Duration, T),
     Ok((took, answer?))
 }
 
-/// What a map holds. The keys count in their order.
+/// A sum in which the order counts.
+fn mixed(sum: u64, more: u64) -> u64 {
+    sum.wrapping_mul(0x9e37_79b9_7f4a_7c15).wrapping_add(more)
+}
+
+/// What a map holds. The keys count in their order, the rows in any.
 pub fn held(map: &impl Map) -> Result<Held, Fault> {
     let mut held = Held::default();
     map.walk(|key, row| {
         held.rows += 1;
-        held.words += u64::from(row[0]);
-        held.keys = held.keys.wrapping_mul(31).wrapping_add(key);
+        held.words = held.words.wrapping_add(row.iter().fold(0, |words, &word| mixed(words, u64::from(word))));
+        held.keys = mixed(held.keys, key);
     })?;
     Ok(held)
 }

@@ -126,7 +126,7 @@ impl Work for Replace {
     }
 
     fn run<M: Map>(self, fixed: &Fixed, map: &mut M, keys: &mut [M::Key]) -> Result<u64, Fault> {
-        for (key, row) in keys.iter().zip(&fixed.rows) {
+        for (key, row) in keys.iter().zip(&fixed.others) {
             map.replace(*key, *row)?;
         }
         Ok(0)
