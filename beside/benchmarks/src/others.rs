@@ -41,7 +41,7 @@ pub fn walk_round(walk: Walk, fixed: &'static Fixed) -> Result<Round, Fault> {
 }
 
 /// Our tables as rebuild finds them, with a shuffled half of the slots live: versions and rows, and no other link word.
-pub fn to_rebuild(fixed: &Fixed) -> Result<(Ours, Vec<u8>), Fault> {
+fn to_rebuild(fixed: &Fixed) -> Result<(Ours, Vec<u8>), Fault> {
     let mut ours = Ours::fresh(ROWS)?;
     ours.with(|map| RemoveInsert.prepare(fixed, map))?;
     Ok(bared(ours))
@@ -61,7 +61,7 @@ pub fn bared(mut ours: Ours) -> (Ours, Vec<u8>) {
 }
 
 /// The same slots, for the original.
-pub fn to_straight(tables: &Tables) -> Slots {
+fn to_straight(tables: &Tables) -> Slots {
     let slots = tables.links.chunks_exact(LINK_WORDS).zip(tables.rows.chunks_exact(ROW_WORDS));
     let row = |words: &[u32]| words.try_into().unwrap_or_default();
     slots.map(|(slot, words)| (slot[0], (slot[0] % 2 == 1).then(|| row(words)))).collect()
