@@ -12,7 +12,7 @@ pub const PASSES: usize = 10;
 pub const ROUNDS: usize = 100;
 pub const WARMING: usize = 20;
 
-/// Makes each pass from another depth of the stack: where it happens to lie in a process can double the time of some calls.
+/// Makes each pass from another depth of the stack: where an answer on it happens to lie across two pages, a call takes twice as long or more.
 pub fn passes(pass: &mut dyn FnMut() -> Result<(), Stop>) -> Result<(), Stop> {
     (0..PASSES).try_for_each(|depth| deeper(depth, pass))
 }
