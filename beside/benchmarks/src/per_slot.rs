@@ -57,7 +57,7 @@ fn measured(from: &Ours, slots: usize, mut task: impl FnMut(&mut Ours) -> Result
 /// The call itself, over keep bytes that are there.
 fn retain_bytes(ours: &mut Ours, keep: &[u8]) -> Result<(), Fault> {
     let Tables { links, rows, header } = &mut ours.now;
-    let answer = calls::retain(links, rows, *header, keep);
+    let answer = calls::Tables::lent(links, rows).ok_or(Refusal::OtherArchive)?.retain(*header, keep);
     if answer.kind == calls::REFUSED {
         return Err(Refusal::of_number(answer.number).into());
     }
