@@ -82,6 +82,7 @@ struct State {
     well: bool,
 }
 
+// The smaller of two counts.
 fn least(a: usize, b: usize) -> usize
     ensures { λ r. ⌜ (r ≤ a) × (r ≤ b) ⌝ }
 {
@@ -118,11 +119,11 @@ fn fill(words: &mut [u32], first: u32, step: u32) {
 // What is no digit, or too large a number, gives some number all the same.
 fn number_in(digits: &[u8]) -> u32 {
     let mut number: u64 = 0;
-    let mut i = 0;
-    while i < digits.len() {
-        let digit = std::num::wrapping_sub_u8(digits[i], b'0');
+    let mut seen = 0;
+    while seen < digits.len() {
+        let digit = std::num::wrapping_sub_u8(digits[seen], b'0');
         number = (number * 10 + digit as u64) % 4294967296;
-        i += 1;
+        seen += 1;
     }
     number as u32
 }
@@ -158,11 +159,11 @@ fn nth<'a>(text: &'a [u8], k: u32) -> &'a [u8] {
 }
 
 // A comment, and a line of nothing, counts as the first name.
-fn command_of(name: &[u8]) -> u32 {
-    if name.len() == 0 {
+fn command_of(line: &[u8], name: &[u8]) -> u32 {
+    if line.len() == 0 {
         return 0;
     }
-    if name[0] == b'#' {
+    if line[0] == b'#' {
         return 0;
     }
     let mut k = 0;
@@ -192,6 +193,7 @@ fn put(out: &mut [u8], at: usize, text: &[u8]) -> usize
     at + bytes::copy(text, &mut out[at..])
 }
 
+// In decimal, with no sign and no zeros in front.
 fn put_number(out: &mut [u8], at: usize, number: u32) -> usize
     requires { ⌜ at ≤ length (now out) ⌝ }
     ensures { λ r. ⌜ r ≤ length (now (out .entry)) ⌝ }
@@ -237,6 +239,7 @@ fn slot_words<'a>(links: &'a [u32], rows: &'a [u32], used: u32, slot: u32) -> &'
     part(links, 0, 0)
 }
 
+// A slot's version, and what means something beside it.
 fn put_slot<'a>(
     out: &mut [u8],
     at: usize,
@@ -279,6 +282,7 @@ struct Form {
     n: usize,
 }
 
+// What is neither done nor refused is told as the call's name asks.
 fn form_of(command: u32, kind: u32) -> Form {
     if kind == flat::DONE {
         return Form {
@@ -353,6 +357,7 @@ fn put_outcome(out: &mut [u8], at: usize, command: u32, x: Answer) -> usize
     put_words(out, parted, &[header.used, header.live])
 }
 
+// Comments and settings have no answer.
 fn put_answer<'a>(
     out: &mut [u8],
     at: usize,
@@ -471,6 +476,7 @@ fn written(links: &[u32], rows: &mut [u32], header: Header, key: Key, word: u32)
     flat::of_number(0, header)
 }
 
+// The side buffer is made of the last two numbers.
 fn replaced(links: &[u32], rows: &mut [u32], header: Header, key: Key, numbers: &[u32]) -> Answer {
     let mut side = [0u32; SIDE];
     fill(&mut side, word_at(numbers, 2), 1);
@@ -479,6 +485,7 @@ fn replaced(links: &[u32], rows: &mut [u32], header: Header, key: Key, numbers: 
     flat::of_number(x.number, x.header)
 }
 
+// The side buffer is made of both numbers.
 fn inserted(links: &mut [u32], rows: &mut [u32], header: Header, word: u32, n: u32) -> Answer {
     let mut side = [0u32; SIDE];
     fill(&mut side, word, 1);
@@ -612,6 +619,7 @@ fn after(state: State, command: u32, numbers: &[u32], header: Header, well: bool
     }
 }
 
+// Answers whether the line was written; what fails is said here.
 fn write_line(out: &[u8], end: usize) -> bool
     requires { ⌜ end ≤ length (now out) ⌝ }
 {
@@ -634,7 +642,7 @@ fn replay_line(
     state: State,
 ) -> State {
     let space = find(line, 0, line.len(), b' ');
-    let command = command_of(&line[0..space]);
+    let command = command_of(line, &line[0..space]);
     let mut numbers = [0u32; NUMBERS];
     let count = read_numbers(line, space, &mut numbers);
     let x = answered(links, rows, state, command, &numbers[0..count]);
@@ -698,6 +706,7 @@ fn run(room: [u8; LIST]) {
     replay(&mut links, &mut rows, &mut out, &list[0..n]);
 }
 
+// The room is so large that a program has it once only.
 fn main() {
     run([0; LIST]);
 }

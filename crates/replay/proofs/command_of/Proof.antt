@@ -1,17 +1,14 @@
 -- `replay::command_of` meets its contract. Assumes nothing.
 use Prim.Native.Nat.{_≤_, _-_}
 use native.Mathlib.Omega.{arith}
-use lib.ListN.{length}
-use mathlib.Core.Path.{_≡_, refl}
-use borrow.Author.Needs.{needs}
 use Rattle.replay.proofs.command_of.Statement.{statement}
 use Rattle.replay.proofs.command_of.Tie as tie
 
 abbrev Inv-loop : tie.InvT-loop
-Inv-loop name k₀ t3 k = k ≤ 20
+Inv-loop line name k₀ t3 k = k ≤ 20
 
 abbrev μ-loop : tie.MeasureT-loop
-μ-loop name k₀ t3 k = 20 - k
+μ-loop line name k₀ t3 k = 20 - k
 
 returns : tie.Need-returns Inv-loop μ-loop
 returns c = omega arith

@@ -3,8 +3,7 @@ use Prim.Native.Nat.{_≤_, _-_}
 use borrow.Author.Tests.{ltb-true}
 use native.Mathlib.Omega.{arith}
 use lib.ListN.{length, length-set}
-use mathlib.Core.Path.{_≡_, refl}
-use borrow.Author.Needs.{needs}
+use mathlib.Core.Path.{_≡_}
 use Rattle.replay.proofs.low_bytes.Statement.{statement}
 use Rattle.replay.proofs.low_bytes.Tie as tie
 

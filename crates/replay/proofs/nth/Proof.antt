@@ -2,9 +2,6 @@
 use Prim.Native.Nat.{_≤_, _-_}
 use borrow.Author.Tests.{ltb-true}
 use native.Mathlib.Omega.{arith}
-use lib.ListN.{length}
-use mathlib.Core.Path.{_≡_, refl}
-use borrow.Author.Needs.{needs}
 use Rattle.replay.proofs.nth.Statement.{statement}
 use Rattle.replay.proofs.nth.Tie as tie
 

@@ -2,16 +2,14 @@
 use Prim.Native.Nat.{_≤_, _<_, _-_}
 use native.Mathlib.Omega.{arith}
 use lib.ListN.{length}
-use mathlib.Core.Path.{_≡_, refl}
-use borrow.Author.Needs.{needs}
 use Rattle.replay.proofs.number_in.Statement.{statement}
 use Rattle.replay.proofs.number_in.Tie as tie
 
 abbrev Inv-loop : tie.InvT-loop
-Inv-loop digits number₀ i₀ number i = (i ≤ length digits) × (number < 4294967296)
+Inv-loop digits number₀ seen₀ number seen = (seen ≤ length digits) × (number < 4294967296)
 
 abbrev μ-loop : tie.MeasureT-loop
-μ-loop digits number₀ i₀ number i = length digits - i
+μ-loop digits number₀ seen₀ number seen = length digits - seen
 
 loop-holds : tie.Need-loop-holds Inv-loop μ-loop
 loop-holds c = omega arith
@@ -31,8 +29,8 @@ cast-number c = omega arith
 add-number : tie.Need-add-number Inv-loop μ-loop
 add-number c = omega arith
 
-add-i : tie.Need-add-i Inv-loop μ-loop
-add-i c = omega arith
+add-seen : tie.Need-add-seen Inv-loop μ-loop
+add-seen c = omega arith
 
 loop-less : tie.Need-loop-less Inv-loop μ-loop
 loop-less c = omega arith
@@ -58,7 +56,7 @@ number-in-spec =
     mul-number
     cast-number
     add-number
-    add-i
+    add-seen
     loop-less
     loop-again
     cast-result

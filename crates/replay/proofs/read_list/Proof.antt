@@ -3,7 +3,6 @@ use Prim.Native.Nat.{_≤_, _-_}
 use native.Mathlib.Omega.{arith}
 use lib.ListN.{length}
 use mathlib.Core.Path.{_≡_, refl}
-use borrow.Author.Needs.{needs}
 use Rattle.replay.proofs.read_list.Statement.{statement}
 use Rattle.replay.proofs.read_list.Tie as tie
 
@@ -26,13 +25,13 @@ part-read-end : tie.Need-part-read-end Inv-loop μ-loop
 part-read-end c = omega arith
 
 read-requires : tie.Need-read-requires Inv-loop μ-loop
-read-requires c κs = omega arith
+read-requires c κs = tt
 
 slice-aggregate-write-all : tie.Need-slice-aggregate-write-all Inv-loop μ-loop
-slice-aggregate-write-all c = omega arith
+slice-aggregate-write-all c = refl
 
 write-all-requires : tie.Need-write-all-requires Inv-loop μ-loop
-write-all-requires c κs = omega arith
+write-all-requires c κs = tt
 
 same-length : tie.Need-same-length Inv-loop μ-loop
 same-length c = omega arith
@@ -50,7 +49,7 @@ part-count-end : tie.Need-part-count-end Inv-loop μ-loop
 part-count-end c = omega arith
 
 count-requires : tie.Need-count-requires Inv-loop μ-loop
-count-requires c κs = omega arith
+count-requires c κs = tt
 
 same-length-2 : tie.Need-same-length-2 Inv-loop μ-loop
 same-length-2 c = omega arith
@@ -68,10 +67,10 @@ loop-again : tie.Need-loop-again Inv-loop μ-loop
 loop-again c = omega arith
 
 slice-aggregate-write-all-2 : tie.Need-slice-aggregate-write-all-2 Inv-loop μ-loop
-slice-aggregate-write-all-2 c = omega arith
+slice-aggregate-write-all-2 c = refl
 
 write-all-requires-2 : tie.Need-write-all-requires-2 Inv-loop μ-loop
-write-all-requires-2 c κs = omega arith
+write-all-requires-2 c κs = tt
 
 same-length-3 : tie.Need-same-length-3 Inv-loop μ-loop
 same-length-3 c = omega arith

@@ -1,10 +1,9 @@
 -- `replay::store` meets its contract. Assumes nothing.
-use Prim.Native.Nat.{_≤_, _-_}
+use Prim.Native.Nat.{_-_}
 use borrow.Author.Tests.{ltb-true}
 use native.Mathlib.Omega.{arith}
 use lib.ListN.{length, length-set}
-use mathlib.Core.Path.{_≡_, refl}
-use borrow.Author.Needs.{needs}
+use mathlib.Core.Path.{_≡_}
 use Rattle.replay.proofs.store.Statement.{statement}
 use Rattle.replay.proofs.store.Tie as tie
 
