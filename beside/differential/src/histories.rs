@@ -224,9 +224,6 @@ pub fn random(count: u64, seed: u64, tally: &Tally) -> Result<(), String> {
 
 /// Rebuilds that one side or the other might take and must not: presence bytes that do not fit, slot 0 occupied, no slot.
 pub fn refused_rebuilds(count: u64, seed: u64, tally: &Tally) -> Result<(), String> {
-    if !oracle::REBUILDS {
-        return Ok(());
-    }
     let mut random = Random::new(seed, 2);
     for _ in 0..count {
         let versions: Vec<u32> = (0..random.below(6)).map(|_| random.pick(&[0, 1, 2, 3, u32::MAX])).collect();

@@ -69,7 +69,9 @@ impl Run {
     }
 
     fn by_chance(&mut self, seed: u64) {
-        self.part("rebuilds that are refused", |tally| histories::refused_rebuilds(100_000, seed, tally));
+        if oracle::REBUILDS {
+            self.part("rebuilds that are refused", |tally| histories::refused_rebuilds(100_000, seed, tally));
+        }
         self.part("random histories", |tally| histories::random(60_000, seed, tally));
         self.part("damaged tables", |tally| damaged::damaged(8_000_000, seed, tally));
     }
