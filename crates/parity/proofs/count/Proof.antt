@@ -29,7 +29,7 @@ one-if-requires c κs = search needs
 
 add-count : tie.Need-add-count Inv-loop μ-loop
 add-count c =
-    let next = count-on _ _ _ (c .before .before .before .loop .inv .1) (c .one-if .result) (cc) in
+    let next = count-on _ _ _ (c .before .before .before .loop .inv .1) (c .one-if .result) (rw (c .one-if .ensures, c .before .counted .ensures)) in
     omega arith
 
 add-i : tie.Need-add-i Inv-loop μ-loop
@@ -39,7 +39,7 @@ loop-less : tie.Need-loop-less Inv-loop μ-loop
 loop-less c = search needs
 
 loop-again : tie.Need-loop-again Inv-loop μ-loop
-loop-again c = (omega arith, count-on _ _ _ (c .before .before .before .loop .inv .1) (c .one-if .result) (cc) .0)
+loop-again c = (omega arith, count-on _ _ _ (c .before .before .before .loop .inv .1) (c .one-if .result) (rw (c .one-if .ensures, c .before .counted .ensures)) .0)
 
 returns : tie.Need-returns Inv-loop μ-loop
 returns c =

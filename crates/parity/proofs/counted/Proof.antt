@@ -7,13 +7,13 @@ is-front-requires : tie.Need-is-front-requires
 is-front-requires c κs = search needs
 
 returns : tie.Need-returns
-returns c = cc
+returns c = rw (c .is-front .ensures, c .before .if1 .taken)
 
 version-requires : tie.Need-version-requires
 version-requires c κs = search needs
 
 returns-2 : tie.Need-returns-2
-returns-2 c = cc
+returns-2 c = rw (c .version .ensures, c .before .if1 .left)
 
 pub counted-spec : {M : Type 1} → statement M
 counted-spec = tie.close (tie.spec is-front-requires returns version-requires returns-2)

@@ -24,7 +24,7 @@ both-requires c κs = search needs
 
 returns-2 : tie.Need-returns-2
 unfolding isBack vacantAt
-returns-2 c = cc
+returns-2 c = rw (c .both .ensures, c .before .vacant2 .ensures, c .before .before .vacant .ensures)
 
 pub is-back-spec : {M : Type 1} → statement M
 is-back-spec =

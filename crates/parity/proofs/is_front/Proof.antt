@@ -16,7 +16,7 @@ both-requires c κs = search needs
 
 returns : tie.Need-returns
 unfolding isFront vacantAt
-returns c = cc
+returns c = rw (c .both .ensures, c .before .past-front .ensures, c .before .before .vacant .ensures)
 
 pub is-front-spec : {M : Type 1} → statement M
 is-front-spec = tie.close (tie.spec vacant-requires past-front-requires both-requires returns)

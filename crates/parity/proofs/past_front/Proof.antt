@@ -22,7 +22,14 @@ both-requires-2 c κs = search needs
 
 returns : tie.Need-returns
 unfolding pastFront vacantAt
-returns c = cc
+returns c =
+    rw (
+      c .both2 .ensures,
+      c .before .vacant2 .ensures,
+      c .before .before .both .ensures,
+      c .before .before .before .vacant .ensures,
+      c .before .before .before .before .one-below .ensures,
+    )
 
 pub past-front-spec : {M : Type 1} → statement M
 past-front-spec =

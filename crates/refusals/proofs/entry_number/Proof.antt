@@ -12,7 +12,7 @@ zero-number-requires c κs = search needs
 
 returns : tie.Need-returns
 unfolding entryNumber
-returns c = cc
+returns c = rw (c .zero-number .ensures, c .before .shape-number .ensures)
 
 pub entry-number-spec : {M : Type 1} → statement M
 entry-number-spec = tie.close (tie.spec shape-number-requires zero-number-requires returns)

@@ -21,7 +21,13 @@ or-if-requires-3 c κs = search needs
 
 returns : tie.Need-returns
 unfolding headerNumber
-returns c = cc
+returns c =
+    rw (
+      c .or-if3 .ensures,
+      c .before .before .or-if2 .ensures,
+      c .before .before .before .or-if .ensures,
+      c .before .before .before .before .one-below .ensures,
+    )
 
 pub header-number-spec : {M : Type 1} → statement M
 header-number-spec =

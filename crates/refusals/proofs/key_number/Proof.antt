@@ -12,7 +12,7 @@ live-number-requires c κs = search needs
 
 returns : tie.Need-returns
 unfolding keyNumber
-returns c = cc
+returns c = rw (c .live-number .ensures, c .before .entry-number .ensures)
 
 pub key-number-spec : {M : Type 1} → statement M
 key-number-spec = tie.close (tie.spec entry-number-requires live-number-requires returns)

@@ -21,7 +21,14 @@ or-if-requires-5 c κs = search needs
 
 returns : tie.Need-returns
 unfolding lentNumber
-returns c = cc
+returns c =
+    rw (
+      c .or-if5 .ensures,
+      c .before .or-if4 .ensures,
+      c .before .before .or-if3 .ensures,
+      c .before .before .before .or-if2 .ensures,
+      c .before .before .before .before .or-if .ensures,
+    )
 
 pub lent-number-spec : {M : Type 1} → statement M
 lent-number-spec =

@@ -15,7 +15,7 @@ or-if-requires-2 c κs = search needs
 
 returns : tie.Need-returns
 unfolding liveNumber
-returns c = cc
+returns c = rw (c .or-if2 .ensures, c .before .live-key .ensures, c .before .before .or-if .ensures)
 
 pub live-number-spec : {M : Type 1} → statement M
 live-number-spec = tie.close (tie.spec or-if-requires live-key-requires or-if-requires-2 returns)

@@ -13,7 +13,7 @@ or-if-requires : tie.Need-or-if-requires
 or-if-requires c κs = search needs
 
 returns : tie.Need-returns
-returns c = cc
+returns c = rw (c .or-if .ensures, c .before .both .ensures, c .before .before .vacant .ensures)
 
 pub or-astray-spec : {M : Type 1} → statement M
 or-astray-spec = tie.close (tie.spec vacant-requires both-requires or-if-requires returns)

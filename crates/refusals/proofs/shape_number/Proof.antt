@@ -12,7 +12,7 @@ header-number-requires c κs = search needs
 
 returns : tie.Need-returns
 unfolding shapeNumber
-returns c = cc
+returns c = rw (c .header-number .ensures, c .before .lent-number .ensures)
 
 pub shape-number-spec : {M : Type 1} → statement M
 shape-number-spec = tie.close (tie.spec lent-number-requires header-number-requires returns)

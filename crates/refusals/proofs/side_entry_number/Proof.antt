@@ -15,7 +15,7 @@ zero-number-requires c κs = search needs
 
 returns : tie.Need-returns
 unfolding sideEntryNumber
-returns c = cc
+returns c = rw (c .zero-number .ensures, c .before .side-number .ensures, c .before .before .shape-number .ensures)
 
 pub side-entry-number-spec : {M : Type 1} → statement M
 side-entry-number-spec =

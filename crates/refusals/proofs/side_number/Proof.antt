@@ -9,7 +9,7 @@ or-if-requires c κs = search needs
 
 returns : tie.Need-returns
 unfolding sideNumber
-returns c = cc
+returns c = rw (c .or-if .ensures)
 
 pub side-number-spec : {M : Type 1} → statement M
 side-number-spec = tie.close (tie.spec or-if-requires returns)

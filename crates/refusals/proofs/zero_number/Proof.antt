@@ -12,7 +12,7 @@ or-if-requires c κs = search needs
 
 returns : tie.Need-returns
 unfolding zeroNumber
-returns c = cc
+returns c = rw (c .or-if .ensures, c .before .version .ensures)
 
 pub zero-number-spec : {M : Type 1} → statement M
 zero-number-spec = tie.close (tie.spec version-requires or-if-requires returns)

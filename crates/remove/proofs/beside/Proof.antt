@@ -16,7 +16,7 @@ vacant-requires-2 : tie.Need-vacant-requires-2
 vacant-requires-2 c κs = search needs
 
 returns : tie.Need-returns
-returns c = cc
+returns c = rw (c .vacant2 .ensures, c .before .vacant .ensures, c .before .before .one-below .ensures)
 
 pub beside-spec : {M : Type 1} → statement M
 beside-spec =

@@ -33,7 +33,16 @@ same-length-2 c = search needs
 
 returns : tie.Need-returns
 unfolding removeStep
-returns c = cc
+returns c =
+    rw (
+      c .one-less .ensures,
+      c .before .before .before .clear-row .ensures,
+      c .before .before .before .before .before .row .ensures,
+      c .before .before .before .before .before .before .before .before .before .set-version .ensures,
+      c .before .before .before .before .before .before .before .before .before .before .before .before .before .free .ensures,
+      c .before .before .before .before .before .before .before .before .before .before .before .before .before .before .before .wrapping-add-u32 .ensures,
+      c .before .before .before .before .before .before .before .before .before .before .before .before .before .before .before .before .version .ensures,
+    )
 
 pub remove-step-spec : {M : Type 1} → statement M
 remove-step-spec =

@@ -15,7 +15,7 @@ sound-number-requires c κs = search needs
 
 returns : tie.Need-returns
 unfolding retainNumber
-returns c = cc
+returns c = rw (c .sound-number .ensures, c .before .side-entry-number .ensures)
 
 pub retain-number-spec : {M : Type 1} → statement M
 retain-number-spec =

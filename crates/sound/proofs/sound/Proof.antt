@@ -13,7 +13,7 @@ sound-number-requires c κs = search needs
 
 returns : tie.Need-returns
 unfolding checkRule
-returns c = answered-by _ _ _ (c .sound-number .result) _ (cc)
+returns c = answered-by _ _ _ (c .sound-number .result) _ (rw (c .sound-number .ensures, c .before .entry-number .ensures))
 
 pub sound-spec : {M : Type 1} → statement M
 sound-spec = tie.close (tie.spec entry-number-requires sound-number-requires returns)

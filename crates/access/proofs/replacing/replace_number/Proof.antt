@@ -12,7 +12,7 @@ live-number-requires c κs = search needs
 
 returns : tie.Need-returns
 unfolding replaceNumber
-returns c = cc
+returns c = rw (c .live-number .ensures, c .before .side-entry-number .ensures)
 
 pub replace-number-spec : {M : Type 1} → statement M
 replace-number-spec = tie.close (tie.spec side-entry-number-requires live-number-requires returns)

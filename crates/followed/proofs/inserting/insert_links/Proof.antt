@@ -13,7 +13,7 @@ next-requires-2 : tie.Need-next-requires-2
 next-requires-2 c κs = search needs
 
 returns : tie.Need-returns
-returns c = cc
+returns c = rw (c .next2 .ensures, c .before .other-end .ensures, c .before .before .next .ensures)
 
 pub insert-links-spec : {M : Type 1} → statement M
 insert-links-spec = tie.close (tie.spec next-requires other-end-requires next-requires-2 returns)

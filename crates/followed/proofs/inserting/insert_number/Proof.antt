@@ -15,7 +15,7 @@ take-number-requires c κs = search needs
 
 returns : tie.Need-returns
 unfolding insertNumber
-returns c = cc
+returns c = rw (c .take-number .ensures, c .before .run-number .ensures, c .before .before .side-entry-number .ensures)
 
 pub insert-number-spec : {M : Type 1} → statement M
 insert-number-spec =

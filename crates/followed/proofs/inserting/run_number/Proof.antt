@@ -36,7 +36,19 @@ or-if-requires-5 c κs = search needs
 
 returns : tie.Need-returns
 unfolding runNumber
-returns c = cc
+returns c =
+    rw (
+      c .or-if5 .ensures,
+      c .before .both .ensures,
+      c .before .before .before .or-if4 .ensures,
+      c .before .before .before .before .before .other-end .ensures,
+      c .before .before .before .before .before .before .or-if3 .ensures,
+      c .before .before .before .before .before .before .before .before .or-if2 .ensures,
+      c .before .before .before .before .before .before .before .before .before .vacant2 .ensures,
+      c .before .before .before .before .before .before .before .before .before .before .or-if .ensures,
+      c .before .before .before .before .before .before .before .before .before .before .before .vacant .ensures,
+      c .before .before .before .before .before .before .before .before .before .before .before .before .before .one-below .ensures,
+    )
 
 pub run-number-spec : {M : Type 1} → statement M
 run-number-spec =

@@ -33,7 +33,17 @@ or-if-requires-2 c κs = search needs
 
 returns : tie.Need-returns
 unfolding takeNumber
-returns c = cc
+returns c =
+    rw (
+      c .or-if2 .ensures,
+      c .before .both3 .ensures,
+      c .before .before .before .or-astray2 .ensures,
+      c .before .before .before .before .one-below .ensures,
+      c .before .before .before .before .before .before .or-if .ensures,
+      c .before .before .before .before .before .before .before .both2 .ensures,
+      c .before .before .before .before .before .before .before .before .before .or-astray .ensures,
+      c .before .before .before .before .before .before .before .before .before .before .both .ensures,
+    )
 
 pub take-number-spec : {M : Type 1} → statement M
 take-number-spec =

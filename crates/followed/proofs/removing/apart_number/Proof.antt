@@ -18,7 +18,13 @@ or-astray-requires c κs = search needs
 
 returns : tie.Need-returns
 unfolding apartNumber
-returns c = cc
+returns c =
+    rw (
+      c .or-astray .ensures,
+      c .before .both .ensures,
+      c .before .before .before .before .or-if .ensures,
+      c .before .before .before .before .before .before .prev .ensures,
+    )
 
 pub apart-number-spec : {M : Type 1} → statement M
 apart-number-spec =

@@ -18,7 +18,13 @@ or-if-requires c κs = search needs
 
 returns : tie.Need-returns
 unfolding leftNumber
-returns c = cc
+returns c =
+    rw (
+      c .or-if .ensures,
+      c .before .both .ensures,
+      c .before .before .before .or-astray .ensures,
+      c .before .before .before .before .other-end .ensures,
+    )
 
 pub left-number-spec : {M : Type 1} → statement M
 left-number-spec =

@@ -15,7 +15,7 @@ right-number-requires c κs = search needs
 
 returns : tie.Need-returns
 unfolding removeNumber
-returns c = cc
+returns c = rw (c .right-number .ensures, c .before .left-number .ensures, c .before .before .apart-number .ensures)
 
 pub remove-number-spec : {M : Type 1} → statement M
 remove-number-spec =

@@ -34,7 +34,9 @@ returns c =
 few : (c : tie.Else1) →
     let a = c .before .before .before .before .before .before .before .args in
     Sized (now (a .links)) (now (a .rows)) (now (a .presence))
-few c = sized _ _ _ (cc)
+few c =
+    sized _ _ _
+    (rw (← c .before .before .before .lent-number .ensures, ← c .before .before .or-if .ensures, ← c .before .or-if2 .ensures) (c .if1 .left))
 
 cast-n : tie.Need-cast-n
 cast-n c = omega (arith, few c .within, few c .lent .most)
@@ -53,7 +55,16 @@ or-if-requires-4 c κs = search needs
 
 returns-2 : tie.Need-returns-2
 unfolding rebuildNumber
-returns-2 c = cc
+returns-2 c =
+    rw (
+      c .or-if4 .ensures,
+      c .before .version .ensures,
+      c .before .before .or-if3 .ensures,
+      c .before .before .before .some-wrong .ensures,
+      c .before .before .before .before .before .or-if2 .ensures,
+      c .before .before .before .before .before .before .or-if .ensures,
+      c .before .before .before .before .before .before .before .lent-number .ensures,
+    )
 
 pub rebuild-number-spec : {M : Type 1} → statement M
 rebuild-number-spec =

@@ -35,7 +35,7 @@ judged : (c : tie.After-wrong-bit Inv-loop μ-loop) →
     let a = c .before .before .before .before .before .before .before .args in
     c .wrong-bit .result ≡ wrongByte (now (a .links)) (a .n) (now (a .presence)) (c .before .before .before .before .loop .i)
 unfolding wrongByte
-judged c = cc
+judged c = rw (c .wrong-bit .ensures, c .before .version .ensures, c .before .before .byte-at .ensures)
 
 returns : tie.Need-returns Inv-loop μ-loop
 returns c =

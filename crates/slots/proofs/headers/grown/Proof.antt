@@ -10,7 +10,7 @@ wrapping-add-u32-requires-2 : tie.Need-wrapping-add-u32-requires-2
 wrapping-add-u32-requires-2 c κs = search needs
 
 returns : tie.Need-returns
-returns c = cc
+returns c = rw (c .wrapping-add-u322 .ensures, c .before .wrapping-add-u32 .ensures)
 
 pub grown-spec : {M : Type 1} → statement M
 grown-spec = tie.close (tie.spec wrapping-add-u32-requires wrapping-add-u32-requires-2 returns)

@@ -7,7 +7,7 @@ one-below-requires : tie.Need-one-below-requires
 one-below-requires c κs = search needs
 
 returns : tie.Need-returns
-returns c = cc
+returns c = rw (c .one-below .ensures)
 
 pub one-less-spec : {M : Type 1} → statement M
 one-less-spec = tie.close (tie.spec one-below-requires returns)

@@ -7,7 +7,7 @@ wrapping-add-u32-requires : tie.Need-wrapping-add-u32-requires
 wrapping-add-u32-requires c κs = search needs
 
 returns : tie.Need-returns
-returns c = cc
+returns c = rw (c .wrapping-add-u32 .ensures)
 
 pub one-more-spec : {M : Type 1} → statement M
 one-more-spec = tie.close (tie.spec wrapping-add-u32-requires returns)

@@ -12,7 +12,7 @@ both-requires c κs = search needs
 
 returns : tie.Need-returns
 unfolding occupiedAt
-returns c = cc
+returns c = rw (c .both .ensures, c .before .version .ensures)
 
 pub occupied-spec : {M : Type 1} → statement M
 occupied-spec = tie.close (tie.spec version-requires both-requires returns)

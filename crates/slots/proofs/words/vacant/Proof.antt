@@ -12,7 +12,7 @@ both-requires c κs = search needs
 
 returns : tie.Need-returns
 unfolding vacantAt
-returns c = cc
+returns c = rw (c .both .ensures, c .before .version .ensures)
 
 pub vacant-spec : {M : Type 1} → statement M
 vacant-spec = tie.close (tie.spec version-requires both-requires returns)

@@ -13,7 +13,7 @@ both-requires : tie.Need-both-requires
 both-requires c κs = search needs
 
 returns : tie.Need-returns
-returns c = cc
+returns c = rw (c .both .ensures, c .before .is-front .ensures, c .before .before .prev .ensures)
 
 pub may-follow-spec : {M : Type 1} → statement M
 may-follow-spec = tie.close (tie.spec prev-requires is-front-requires both-requires returns)

@@ -22,7 +22,8 @@ both-requires c κs = search needs
 returns-2 : tie.Need-returns-2
 returns-2 c =
     let b = c .before .before .before in
-    simp (not-false (b .before .is-back .result) (b .if1 .left), ← b .before .is-back .ensures) (cc)
+    simp (not-false (b .before .is-back .result) (b .if1 .left), ← b .before .is-back .ensures)
+    (rw (c .both .ensures, c .before .other-end2 .ensures, c .before .before .other-end .ensures))
 
 pub meet-at-spec : {M : Type 1} → statement M
 meet-at-spec =
