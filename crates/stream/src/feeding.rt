@@ -18,8 +18,8 @@ use commands::walk_turn;
 use hearing::ended;
 use hearing::heard;
 use hop::Cursor;
-use wire::replies::fits;
-use wire::replies::put_reply;
+use replies::fits;
+use replies::put_reply;
 
 // How far a piece is: the state, the bytes taken of the input and written to the output.
 pub struct Progress {

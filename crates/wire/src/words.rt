@@ -1,4 +1,4 @@
-// Words as bytes, low byte first: read out of a body, written to the output.
+// Words as bytes, low byte first, read out of a body.
 ghost use mathlib.Core.Path.{_≡_};
 ghost use Prim.Native.Nat.{_+_, _≤_, _<_};
 ghost use Rattle.wire.specs.Words.{wordAt, keyIn, rowIn};

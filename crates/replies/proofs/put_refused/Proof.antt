@@ -1,10 +1,10 @@
--- `wire::replies::put_refused` meets its contract. Assumes nothing.
+-- `replies::put_refused` meets its contract. Assumes nothing.
 use native.Mathlib.Numerals.{add-one}
 use native.Mathlib.Omega.{arith}
 use lib.ListN.{length-set}
 use borrow.Author.Needs.{needs}
-use Rattle.wire.proofs.replies.put_refused.Statement.{statement}
-use Rattle.wire.proofs.replies.put_refused.Tie as tie
+use Rattle.replies.proofs.put_refused.Statement.{statement}
+use Rattle.replies.proofs.put_refused.Tie as tie
 
 slice-write-out : tie.Need-slice-write-out
 slice-write-out c = search needs

@@ -1,10 +1,10 @@
--- `wire::replies::put_key` meets its contract. Assumes nothing.
+-- `replies::put_key` meets its contract. Assumes nothing.
 use borrow.Author.Needs.{needs}
 use Rattle.wire.specs.Words.{keyBytes}
 use Rattle.wire.proofs.Sets.{sets-append}
 use Rattle.wire.proofs.Lengths.{length-bytes}
-use Rattle.wire.proofs.replies.put_key.Statement.{statement}
-use Rattle.wire.proofs.replies.put_key.Tie as tie
+use Rattle.replies.proofs.put_key.Statement.{statement}
+use Rattle.replies.proofs.put_key.Tie as tie
 
 put-word-requires : tie.Need-put-word-requires
 put-word-requires c κs = search needs

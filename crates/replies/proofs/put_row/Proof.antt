@@ -1,4 +1,4 @@
--- `wire::replies::put_row` meets its contract. Assumes nothing.
+-- `replies::put_row` meets its contract. Assumes nothing.
 use mathlib.Core.Path.{_≡_, refl}
 use denote.Ref.{now}
 use Prim.Native.Nat.{_-_, _≤_}
@@ -6,10 +6,10 @@ use native.Mathlib.Omega.{arith}
 use lib.ListN.{length, take}
 use lib.Seq.{sets, length-sets, take-all}
 use Rattle.rules.specs.Words.{rowWords}
 use Rattle.wire.specs.Words.{wordsBytes}
 use Rattle.wire.proofs.Sets.{sets-words-more}
-use Rattle.wire.proofs.replies.put_row.Statement.{statement}
-use Rattle.wire.proofs.replies.put_row.Tie as tie
+use Rattle.replies.proofs.put_row.Statement.{statement}
+use Rattle.replies.proofs.put_row.Tie as tie
 
 abbrev Inv-loop : tie.InvT-loop
 Inv-loop out₀ at row k₀ out k = (k ≤ rowWords) × (length out ≡ length out₀) × (out ≡ sets out₀ at (wordsBytes (take k row)))

@@ -1,15 +1,15 @@
--- `wire::replies::put_row_reply` meets its contract. Assumes nothing.
+-- `replies::put_row_reply` meets its contract. Assumes nothing.
 use mathlib.Core.Path.{_≡_}
 use denote.Ref.{now}
 use Prim.Native.Nat.{suc, _+_}
 use native.Mathlib.Omega.{arith}
 use lib.ListN.{length, length-set}
 use lib.Seq.{length-sets}
 use Rattle.wire.proofs.Lengths.{length-key-bytes}
 use Rattle.wire.proofs.Sets.{sets-append}
 use borrow.Author.Needs.{needs}
-use Rattle.wire.proofs.replies.put_row_reply.Statement.{statement}
-use Rattle.wire.proofs.replies.put_row_reply.Tie as tie
+use Rattle.replies.proofs.put_row_reply.Statement.{statement}
+use Rattle.replies.proofs.put_row_reply.Tie as tie
 
 slice-write-out : tie.Need-slice-write-out
 slice-write-out c = search needs

@@ -1,4 +1,4 @@
--- `wire::replies::put_reply` meets its contract. Assumes nothing.
+-- `replies::put_reply` meets its contract. Assumes nothing.
 use mathlib.Core.Path.{_≡_, refl, sym, _∙_}
 use mathlib.Core.Bool.{true}
 use Prim.Native.Nat.{_+_, _≤_}
@@ -7,11 +7,11 @@ use native.Mathlib.Omega.{arith}
 use lib.ListN.{length}
 use borrow.Author.Needs.{needs}
 use borrow.Author.Tests.{not-true, not-false}
 use Rattle.wire.specs.Replies.{fits, longest, sayingBytes}
 use Rattle.wire.proofs.Lengths.{silent-length, with-key-length, with-row-length, done-length, refused-length}
 use Rattle.wire.proofs.Output.{fits-room, said, not-said}
-use Rattle.wire.proofs.replies.put_reply.Statement.{statement}
-use Rattle.wire.proofs.replies.put_reply.Tie as tie
+use Rattle.replies.proofs.put_reply.Statement.{statement}
+use Rattle.replies.proofs.put_reply.Tie as tie
 
 -- past the test any reply fits
 fits-here : (c : tie.Else1) → fits (length (now (c .before .before .before .args .out))) (c .before .before .before .args .at) ≡ true

@@ -4,13 +4,13 @@ ghost use Prim.Native.Nat.{_+_, _≤_};
 ghost use lib.ListN.{length};
 ghost use lib.Seq.{sets};
 ghost use Rattle.rules.specs.Words.{rowWords};
 ghost use Rattle.wire.specs.Words.{bytesOf, wordsBytes, keyBytes};
 ghost use Rattle.wire.specs.Replies.{keyReply, rowReply, doneReply, refusedReply, sayingBytes, fits, replied, repliedTo};
-use crate::LONGEST;
-use crate::Saying;
 use rules::Key;
 use rules::ROW_WORDS;
 use rules::Row;
+use wire::LONGEST;
+use wire::Saying;
 
 // Whether any reply fits into an output of so many bytes from byte at on.
 pub fn fits(room: usize, at: usize) -> bool

@@ -1,12 +1,12 @@
--- `wire::replies::put_word` meets its contract. Assumes nothing.
+-- `replies::put_word` meets its contract. Assumes nothing.
 use mathlib.Core.Path.{_≡_}
 use Prim.Native.Nat.{suc, _+_}
 use native.Mathlib.Omega.{arith}
 use lib.ListN.{length-set}
 use Rattle.wire.specs.Words.{bytesOf}
 use borrow.Author.Needs.{needs}
-use Rattle.wire.proofs.replies.put_word.Statement.{statement}
-use Rattle.wire.proofs.replies.put_word.Tie as tie
+use Rattle.replies.proofs.put_word.Statement.{statement}
+use Rattle.replies.proofs.put_word.Tie as tie
 
 cast-out : tie.Need-cast-out
 cast-out c = search needs

@@ -1,11 +1,11 @@
--- `wire::replies::put_key_reply` meets its contract. Assumes nothing.
+-- `replies::put_key_reply` meets its contract. Assumes nothing.
 use native.Mathlib.Numerals.{add-one}
 use native.Mathlib.Omega.{arith}
 use lib.ListN.{length-set}
 use lib.Seq.{length-sets}
 use borrow.Author.Needs.{needs}
-use Rattle.wire.proofs.replies.put_key_reply.Statement.{statement}
-use Rattle.wire.proofs.replies.put_key_reply.Tie as tie
+use Rattle.replies.proofs.put_key_reply.Statement.{statement}
+use Rattle.replies.proofs.put_key_reply.Tie as tie
 
 slice-write-out : tie.Need-slice-write-out
 slice-write-out c = search needs

@@ -1,4 +1,4 @@
--- `wire::replies::fits` meets its contract. Assumes nothing.
+-- `replies::fits` meets its contract. Assumes nothing.
 use mathlib.Core.Path.{_≡_}
 use Prim.Native.Nat.{_+_, _-_}
 use mathlib.Core.Bool.{Bool}
@@ -6,9 +6,9 @@ use native.Mathlib.Omega.{arith}
 use lib.Dec.{leb}
 use borrow.Author.Tests.{lt-leb, le-leb, leb-true, leb-false}
 use Rattle.rules.proofs.Choice.{by-test}
 use Rattle.wire.specs.Replies.{fits, longest}
-use Rattle.wire.proofs.replies.fits.Statement.{statement}
-use Rattle.wire.proofs.replies.fits.Tie as tie
+use Rattle.replies.proofs.fits.Statement.{statement}
+use Rattle.replies.proofs.fits.Tie as tie
 
 returns : tie.Need-returns
 unfolding fits
