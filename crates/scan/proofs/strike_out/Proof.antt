@@ -1,9 +1,9 @@
--- `retain::strike_out` meets its contract. Assumes nothing.
+-- `scan::strike_out` meets its contract. Assumes nothing.
 use Rattle.runs.specs.Scans.{strikeOut}
 use borrow.Author.Tests.{eq-eqb, ne-eqb}
 use borrow.Author.Needs.{needs}
-use Rattle.retain.proofs.strike_out.Statement.{statement}
-use Rattle.retain.proofs.strike_out.Tie as tie
+use Rattle.scan.proofs.strike_out.Statement.{statement}
+use Rattle.scan.proofs.strike_out.Tie as tie
 
 byte-at-requires : tie.Need-byte-at-requires
 byte-at-requires c κs = search needs

@@ -1,4 +1,4 @@
--- `retain::scan` meets its contract. The loop's invariant: what has been done so far is what the steps so far do. Assumes nothing.
+-- `scan::scan` meets its contract. The loop's invariant: what has been done so far is what the steps so far do. Assumes nothing.
 use Rattle.rules.specs.Values.{Outcome, plain, counted}
 use Rattle.rules.specs.Retain.{struckBy}
 use Rattle.rules.specs.declared.Header.{Header}
@@ -13,8 +13,8 @@ use native.Mathlib.Omega.{arith}
 use lib.ListN.{length}
 use denote.Ref.{now}
 use borrow.Author.Needs.{needs}
-use Rattle.retain.proofs.scan.Statement.{statement}
-use Rattle.retain.proofs.scan.Tie as tie
+use Rattle.scan.proofs.scan.Statement.{statement}
+use Rattle.scan.proofs.scan.Tie as tie
 
 module _ (chosen : ℕ → Bool) where
   -- one slot more
