@@ -1,4 +1,5 @@
-//! The original, as slotmap 1.1.1 has it and with one line mended, behind one trait: what each call answers, and every word that its Debug output shows.
+//! The original, as slotmap 1.1.1 has it and with one line mended, behind one trait: what each call answers, and every word that its Debug output
+//! shows.
 #![allow(deprecated)]
 use std::fmt::{self, Write};
 use std::mem;
@@ -113,8 +114,8 @@ pub trait Original: Clone {
     /// A drain to its end.
     fn drain(&mut self) -> Vec<(Key, Words)>;
     fn clear(&mut self);
-    /// Asks about every key, in the original's order.
-    fn retain(&mut self, keeps: impl FnMut(Key) -> bool);
+    /// Asks about every key and row, in the original's order.
+    fn retain(&mut self, keeps: impl FnMut(Key, &mut Words) -> bool);
     fn count(&self) -> usize;
     /// A walk, calling for each key and row.
     fn walk(&self, visit: impl FnMut(Key, &Words));
@@ -177,8 +178,8 @@ macro_rules! original {
                 self.clear();
             }
 
-            fn retain(&mut self, mut keeps: impl FnMut(Key) -> bool) {
-                self.retain(|key, _| keeps($told(key)));
+            fn retain(&mut self, mut keeps: impl FnMut(Key, &mut Words) -> bool) {
+                self.retain(|key, row| keeps($told(key), &mut row.0));
             }
 
             fn count(&self) -> usize {

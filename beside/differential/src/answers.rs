@@ -1,5 +1,6 @@
-//! The lines of the fixed list as the original answers them. What it has no answer for is told as document 01 has it: 5 for an insert at a full table, 4 for a key at which it
-//! finds nothing, 3 for an even version, which it cannot be asked about. What it cannot even be asked has no answer here.
+//! The lines of the fixed list as the original answers them. What it has no answer for is told as document 01 has it: 5 for an insert at a full
+//! table, 4 for a key at which it finds nothing, 3 for an even version, which it cannot be asked about. A hop step is the next key of its walk, room
+//! is reckoned from its count. What it cannot even be asked has no answer here.
 use oracle::{Key, Shown, Words};
 
 use crate::list::{self, from, row_told, with_header};
@@ -53,12 +54,7 @@ impl Answers {
     }
 
     pub fn answer(&mut self, line: &str) -> Result<Told, String> {
-        let mut words = line.split(' ');
-        let name = words.next().unwrap_or_default();
-        if name.is_empty() || name.starts_with('#') {
-            return Ok(Told::Nothing);
-        }
-        let numbers = words.map(|word| word.parse().map_err(|_| format!("'{word}' is no number"))).collect::<Result<Vec<u32>, _>>()?;
+        let Some((name, numbers)) = list::read(line)? else { return Ok(Told::Nothing) };
         if self.setting(name, &numbers) {
             return Ok(Told::Nothing);
         }
@@ -167,10 +163,10 @@ impl Answers {
     fn show(&mut self) -> String {
         self.used();
         let rows: Vec<_> = self.map.iter().flat_map(Originals::walk).collect();
-        let slot = |(number, slot): (usize, &oracle::Slot)| list::Shown {
+        let slot = |(number, slot): (usize, &oracle::Slot)| list::SlotWords {
             links: [slot.version, slot.next, slot.prev, slot.other_end],
             row: rows.iter().find(|(key, _)| key.0 as usize == number).map_or([0; 8], |(_, row)| *row),
         };
-        list::shown(&self.shown.slots.iter().enumerate().map(slot).collect::<Vec<_>>())
+        list::show_told(&self.shown.slots.iter().enumerate().map(slot).collect::<Vec<_>>())
     }
 }

@@ -4,7 +4,9 @@ use std::sync::Arc;
 use hop::{Header, HopSlotMap, Refusal, LINK_WORDS, ROW_WORDS};
 use oracle::{Key, Original, Shown, Words};
 
-use crate::originals::{kept, Answer, Call, Originals};
+use crate::agree::{holds, same};
+use crate::mark::Mark;
+use crate::originals::{self, Answer, Call, Originals};
 use crate::tables::Tables;
 use crate::tally::{Kind, Tally};
 
@@ -26,25 +28,6 @@ pub struct Beside {
     keys: Vec<Key>,
     /// Of all of the above, as the last comparison saw it.
     mark: Mark,
-}
-
-/// A mark of a whole state, in 128 bits: maps with one mark are taken for one.
-#[derive(Clone, Copy, Default, PartialEq, Eq, Hash)]
-pub struct Mark(u64, u64);
-
-impl Mark {
-    fn add(&mut self, word: u32) {
-        self.0 = (self.0 ^ u64::from(word)).wrapping_mul(0x9fb2_1c65_1e98_df25).rotate_left(29);
-        self.1 = (self.1.rotate_left(23) ^ u64::from(word)).wrapping_mul(0xd6e8_feb8_6659_fd93);
-    }
-
-    fn add_all(&mut self, words: &[u32]) {
-        words.iter().for_each(|word| self.add(*word));
-    }
-
-    fn add_shown(&mut self, shown: &Shown) {
-        shown.slots.iter().for_each(|slot| self.add_all(&[slot.version, slot.next, slot.prev, slot.other_end]));
-    }
 }
 
 pub fn told(key: hop::Key) -> Key {
@@ -80,29 +63,12 @@ fn by_port(map: &mut HopSlotMap<'_>, call: &Call) -> Result<Answer, Refusal> {
             map.clear()?;
             Answer::Cleared
         }
-        Call::Retain(keep) => {
+        Call::Retain(keep) | Call::RetainWriting(keep) => {
             let mut order = Vec::new();
-            let gone = map.retain(|key, _| {
-                order.push(told(key));
-                kept(keep, told(key))
-            })?;
+            let gone = map.retain(|key, row| originals::asked(call, keep, told(key), row, &mut order))?;
             Answer::Retained(gone, order)
         }
     })
-}
-
-fn same<T: PartialEq + std::fmt::Debug>(what: &str, ours: &T, theirs: &T) -> Result<(), String> {
-    if ours == theirs {
-        return Ok(());
-    }
-    Err(format!("{what}: ours {ours:?}, the original's {theirs:?}"))
-}
-
-fn holds(what: &str, ok: bool) -> Result<(), String> {
-    if ok {
-        return Ok(());
-    }
-    Err(what.to_string())
 }
 
 impl Beside {
@@ -127,6 +93,7 @@ impl Beside {
             .collect();
         let (links, rows) = tables.lent();
         let ours = HopSlotMap::rebuild(links, rows, presence).map(|map| map.header());
+        holds("a refused rebuild changed a word", ours.is_ok() || tables == *before)?;
         let theirs = Originals::rebuilt(&slots);
         let (header, originals) = match (ours, theirs) {
             (Ok(header), Ok(originals)) => (header, originals),
@@ -136,7 +103,8 @@ impl Beside {
             (Err(Refusal::Shape), Err(said)) if presence.is_empty() && said.starts_with("first slot not empty") => return Ok(None),
             (ours, theirs) => return Err(format!("rebuild: ours {ours:?}, the original's {:?}", theirs.err())),
         };
-        let keys = (0..presence.len()).filter(|slot| presence[*slot] == 1).map(|slot| (slot as u32, before.version(slot))).collect();
+        // The key that is live in each slot, or the last that was.
+        let keys = (1..presence.len()).map(|slot| (slot as u32, before.version(slot).wrapping_sub(u32::from(presence[slot] == 0)))).collect();
         Ok(Some(Beside { tables, before, header, originals, keys, mark: Mark::default() }))
     }
 
@@ -198,6 +166,7 @@ impl Beside {
 
     /// Compares everything that the maps show.
     pub fn compare(&mut self, scratch: &mut Scratch, tally: &Tally) -> Result<(), String> {
+        let looked_at = self.tables.clone();
         holds("a guard word changed", self.tables.guarded())?;
         holds("a word past the slots in use changed", self.tables.same_from(self.used(), &self.before))?;
         self.vacant_rows()?;
@@ -226,6 +195,7 @@ impl Beside {
             self.compare_with(mended, false, scratch)?;
             mark.add_shown(&scratch.shown);
         }
+        holds("a call that only looks changed a word", self.tables == looked_at)?;
         mark.add_all(self.tables.links());
         mark.add_all(self.tables.rows());
         mark.add_all(&[self.header.used, self.header.live]);
@@ -260,12 +230,10 @@ impl Beside {
         } else {
             map.walk_mut(&mut agrees);
         }
-        same("the walk agrees up to", &at, &scratch.walk.len())?;
+        same("rows of our walk that the original's walk has too", &at, &scratch.walk.len())?;
         let keys = std::mem::take(&mut self.keys);
         let compared = self.with_map(|ours| {
-            // The last ones every time, the older ones in turn.
-            let turn = keys.len() % 16;
-            keys.iter().rev().enumerate().filter(|(place, _)| *place < 24 || place % 16 == turn).try_for_each(|(_, key)| {
+            keys.iter().try_for_each(|key| {
                 same("a key is live", &ours.contains_key(asked(*key)), &map.contains(*key))?;
                 same("a row", &ours.get(asked(*key)).copied(), &map.get(*key))
             })
@@ -283,14 +251,15 @@ impl Beside {
                 if ours == theirs {
                     return Ok(());
                 }
-                Err(format!("{name} of slot {slot}: ours {ours}, the original's {theirs}"))
+                Err(format!("{name} of slot {slot}: {ours}, not {theirs}"))
             };
             word("version", ours[0], theirs.version)?;
             let front = vacant(slot) && (slot == 0 || !vacant(slot - 1));
             if front {
                 word("next", ours[1], theirs.next)?;
             }
-            if front && !(slot == 0 && exempt) {
+            // What the original's rebuild leaves in prev(0) is 0.
+            if front && !(slot == 0 && exempt && theirs.prev == 0) {
                 word("prev", ours[2], theirs.prev)?;
             }
             if front || vacant(slot) && !vacant(slot + 1) {

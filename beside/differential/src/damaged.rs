@@ -1,29 +1,12 @@
-//! Tables that no map left: every call ends, stays inside what was lent, and where it refuses it changes no word. Which number is right the original cannot say;
-//! the hand-written vectors do.
+//! Tables that no map left: every call ends, stays inside what was lent, and where it refuses it changes no word. Which number is right the original
+//! cannot say; the hand-written vectors do.
 use hop::{calls, Header, HopSlotMap, Key, LIMIT, LINK_WORDS, ROW_WORDS};
 
-use crate::histories::shared;
+use crate::jobs::shared;
 use crate::random::Random;
 use crate::soundness::sound;
 use crate::tables::Tables;
 use crate::tally::{Kind, Tally};
-
-/// The calls, and the numbers that each can give.
-const CALLS: [(&str, &[u32]); 13] = [
-    ("start", &[1]),
-    ("room", &[1, 2]),
-    ("key_number", &[1, 2, 3, 4]),
-    ("look", &[1, 2, 3, 4]),
-    ("replace", &[1, 2, 3, 4]),
-    ("insert", &[1, 2, 5]),
-    ("remove", &[1, 2, 3, 4]),
-    ("hop_step", &[1, 2, 6]),
-    ("drain_step", &[1, 2]),
-    ("clear", &[1, 2]),
-    ("retain", &[1, 2]),
-    ("rebuild", &[1, 7, 8]),
-    ("sound", &[1, 2]),
-];
 
 /// Everything that a call may be given.
 #[derive(Debug)]
@@ -35,69 +18,102 @@ struct Given {
     bytes: Vec<u8>,
 }
 
-fn made(call: &str, tables: &mut Tables, given: &Given) -> calls::Answer {
-    let header = given.header;
-    let mut lent = tables.calls();
-    match call {
-        "start" => lent.start(header),
-        "room" => lent.room(header),
-        "key_number" => lent.key_number(header, given.key),
-        "look" => lent.look(header, given.key),
-        "replace" => lent.replace(header, given.key, &given.side),
-        "insert" => lent.insert(header, &given.side),
-        "remove" => lent.remove(header, given.key),
-        "hop_step" => lent.hop_step(header, given.cursor),
-        "drain_step" => lent.drain_step(header),
-        "clear" => lent.clear(header),
-        "retain" => lent.retain(header, &given.bytes),
-        "rebuild" => lent.rebuild(header, &given.bytes),
-        _ => lent.sound(header),
-    }
+/// A call, and the numbers that it can give.
+struct Call {
+    name: &'static str,
+    numbers: &'static [u32],
+    make: fn(&mut calls::Tables<'_>, &Given) -> calls::Answer,
 }
 
-/// Whether the lengths and the header pass as a shape: then soundness means something.
-fn shaped(tables: &Tables, header: Header) -> bool {
+const CALLS: [Call; 14] = [
+    Call { name: "start", numbers: &[1], make: |lent, given| lent.start(given.header) },
+    Call { name: "room", numbers: &[1, 2], make: |lent, given| lent.room(given.header) },
+    Call { name: "key_number", numbers: &[1, 2, 3, 4], make: |lent, given| lent.key_number(given.header, given.key) },
+    Call { name: "look", numbers: &[1, 2, 3, 4], make: |lent, given| lent.look(given.header, given.key) },
+    Call { name: "look_mut", numbers: &[1, 2, 3, 4], make: looked_through },
+    Call { name: "replace", numbers: &[1, 2, 3, 4], make: |lent, given| lent.replace(given.header, given.key, &given.side) },
+    Call { name: "insert", numbers: &[1, 2, 5], make: |lent, given| lent.insert(given.header, &given.side) },
+    Call { name: "remove", numbers: &[1, 2, 3, 4], make: |lent, given| lent.remove(given.header, given.key) },
+    Call { name: "hop_step", numbers: &[1, 2, 6], make: |lent, given| lent.hop_step(given.header, given.cursor) },
+    Call { name: "drain_step", numbers: &[1, 2], make: |lent, given| lent.drain_step(given.header) },
+    Call { name: "clear", numbers: &[1, 2], make: |lent, given| lent.clear(given.header) },
+    Call { name: "retain", numbers: &[1, 2], make: |lent, given| lent.retain(given.header, &given.bytes) },
+    Call { name: "rebuild", numbers: &[1, 7, 8], make: |lent, given| lent.rebuild(given.header, &given.bytes) },
+    Call { name: "sound", numbers: &[1, 2], make: |lent, given| lent.sound(given.header) },
+];
+
+/// The Rust surface's look to write through has no number of its own: it asks for the key's, and hands out the row of its slot.
+fn looked_through(lent: &mut calls::Tables<'_>, given: &Given) -> calls::Answer {
+    let answer = lent.key_number(given.header, given.key);
+    if answer.kind == calls::DONE {
+        let first = given.key.index as usize * ROW_WORDS;
+        lent.rows_mut()[first..first + ROW_WORDS].iter_mut().for_each(|word| *word = !*word);
+    }
+    answer
+}
+
+/// Number 1, as document 01 has it: of start and rebuild the lent buffers alone, of the others the header too, and of each its side buffer.
+fn misshapen(call: &Call, tables: &Tables, given: &Given) -> bool {
     let slots = tables.slots();
-    let lengths = tables.links().len() == slots * LINK_WORDS && tables.rows().len() == slots * ROW_WORDS;
-    let (used, live) = (header.used as usize, header.live as usize);
-    lengths && (1..=LIMIT).contains(&slots) && (1..=slots).contains(&used) && live < used
+    let (used, live) = (given.header.used as usize, given.header.live as usize);
+    let lengths = tables.links().len() == slots * LINK_WORDS && tables.rows().len() == slots * ROW_WORDS && (1..=LIMIT).contains(&slots);
+    let header = ["start", "rebuild"].contains(&call.name) || (1..=slots).contains(&used) && live < used;
+    let beside = match call.name {
+        "insert" | "replace" => given.side.len() == ROW_WORDS,
+        "retain" => given.bytes.len() == used,
+        "rebuild" => (1..=slots).contains(&given.bytes.len()),
+        _ => true,
+    };
+    !(lengths && header && beside)
 }
 
 /// What is wrong with what a call did, if anything.
-fn fault(call: &str, numbers: &[u32], before: &Tables, after: &Tables, given: &Given, answer: &calls::Answer) -> Option<&'static str> {
+fn fault(call: &Call, before: &Tables, after: &Tables, given: &Given, answer: &calls::Answer) -> Option<&'static str> {
     if !after.guarded() {
         return Some("a guard word changed");
     }
     if answer.layout != calls::LAYOUT {
         return Some("another layout");
     }
+    if (answer.number == 1) != misshapen(call, before, given) {
+        return Some("1 for what has the right shape, or something else for what has not");
+    }
     if answer.kind == calls::REFUSED {
-        let bare =
-            calls::Answer { number: answer.number, header: given.header, ..calls::Answer { kind: calls::REFUSED, layout: calls::LAYOUT, ..ZERO } };
-        return match () {
-            () if *answer != bare => Some("a refusal answers more than its number, or another header"),
-            () if after != before => Some("a refused call changed a word"),
-            () if !numbers.contains(&answer.number) => Some("a number that this call never gives"),
-            () if answer.number == 2 && sound(before.links(), given.header) => Some("2 on a sound table"),
-            () => None,
-        };
+        return refusal_fault(call, before, after, given, answer);
     }
     if answer.kind > calls::REFUSED || answer.number != 0 {
         return Some("neither an answer nor a refusal");
     }
     let top = given.header.used.max(answer.header.used) as usize;
-    if !["start", "rebuild"].contains(&call) && !after.same_from(top, before) {
+    if !["start", "rebuild"].contains(&call.name) && !after.same_from(top, before) {
         return Some("a word past the slots in use changed");
     }
-    if ["sound", "clear", "retain"].contains(&call) && !sound(before.links(), given.header) {
+    if ["sound", "clear", "retain"].contains(&call.name) && !sound(before.links(), given.header) {
         return Some("the whole check passed a table that is not sound");
     }
     None
 }
 
-const ZERO: calls::Answer = calls::Answer {
-    layout: 0,
-    kind: 0,
+fn refusal_fault(call: &Call, before: &Tables, after: &Tables, given: &Given, answer: &calls::Answer) -> Option<&'static str> {
+    if *answer != (calls::Answer { number: answer.number, header: given.header, ..REFUSED }) {
+        return Some("a refusal answers more than its number, or another header");
+    }
+    if after != before {
+        return Some("a refused call changed a word");
+    }
+    if !call.numbers.contains(&answer.number) {
+        return Some("a number that this call never gives");
+    }
+    if answer.number == 2 && sound(before.links(), given.header) {
+        return Some("2 on a sound table");
+    }
+    None
+}
+
+/// A refusal, with nothing in it yet.
+const REFUSED: calls::Answer = calls::Answer {
+    layout: calls::LAYOUT,
+    kind: calls::REFUSED,
     number: 0,
     key: Key { index: 0, version: 0 },
     cursor: 0,
@@ -117,11 +133,11 @@ fn any_word(slots: usize, random: &mut Random) -> u32 {
 
 /// Tables of random words, with any lengths and header.
 fn random_words(random: &mut Random) -> (Tables, Header) {
-    let slots = random.below(6) + 1;
+    let slots = random.below(7);
     let (more, bits) = (|random: &mut Random| if random.once_in(12) { random.below(9) } else { 0 }, random.below(3));
     let (links, rows) = (slots * LINK_WORDS + more(random), slots * ROW_WORDS + more(random));
     let tables = Tables::of(links, rows, || if bits == 0 { random.word() } else { any_word(slots, random) });
-    let used = random.below(slots) as u32 + 1;
+    let used = random.below(slots.max(1)) as u32 + 1;
     let live = random.below(used as usize) as u32;
     (tables, if random.once_in(10) { Header { used: any_word(slots, random), live: any_word(slots, random) } } else { Header { used, live } })
 }
@@ -181,14 +197,13 @@ fn given(tables: &Tables, header: Header, random: &mut Random) -> Given {
 /// Every call on one table.
 fn every_call(tables: &Tables, header: Header, random: &mut Random, tally: &Tally) -> Result<(), String> {
     let mut refused = 0;
-    for (call, numbers) in CALLS {
+    for call in &CALLS {
         let given = given(tables, header, random);
         let mut after = tables.clone();
-        let answer = made(call, &mut after, &given);
-        let shape = answer.number == 1 || ["start", "rebuild"].contains(&call) || shaped(tables, header);
-        let said = if shape { fault(call, numbers, tables, &after, &given, &answer) } else { Some("a table of no shape was not refused with 1") };
-        if let Some(said) = said {
-            return Err(format!("{call}: {said}\n  answer {answer:?}\n  given {given:?}\n  links {:?}\n  rows {:?}", tables.links(), tables.rows()));
+        let answer = (call.make)(&mut after.calls(), &given);
+        if let Some(said) = fault(call, tables, &after, &given, &answer) {
+            let (links, rows) = (tables.links(), tables.rows());
+            return Err(format!("{}: {said}\n  answer {answer:?}\n  given {given:?}\n  links {links:?}\n  rows {rows:?}", call.name));
         }
         refused += u64::from(answer.kind == calls::REFUSED);
     }

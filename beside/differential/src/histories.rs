@@ -1,12 +1,11 @@
 //! Histories beside the original: every one of so many calls at a few slots, and random ones.
 use std::collections::HashMap;
-use std::sync::atomic::{AtomicUsize, Ordering::Relaxed};
-use std::sync::Mutex;
-use std::thread;
 
 use oracle::Key;
 
-use crate::beside::{Beside, Mark, Scratch};
+use crate::beside::{Beside, Scratch};
+use crate::jobs::shared;
+use crate::mark::Mark;
 use crate::originals::Call;
 use crate::random::Random;
 use crate::tables::Tables;
@@ -16,46 +15,23 @@ use crate::tally::{Kind, Tally};
 const EVEN: [u32; 4] = [0, 2, 1 << 31, u32::MAX - 1];
 const ODD: [u32; 4] = [1, (1 << 31) - 1, (1 << 31) + 1, u32::MAX];
 
-/// Runs jobs on all processors; the first fault of any ends them all.
-pub fn shared<T: Sync>(jobs: &[T], run: impl Fn(&T) -> Result<(), String> + Sync) -> Result<(), String> {
-    let (next, fault) = (AtomicUsize::new(0), Mutex::new(Ok(())));
-    let work = || {
-        while let Some(job) = jobs.get(next.fetch_add(1, Relaxed)) {
-            if let Err(said) = run(job) {
-                next.store(jobs.len(), Relaxed);
-                *fault.lock().unwrap() = Err(said);
-            }
-        }
-    };
-    thread::scope(|scope| {
-        for _ in 0..thread::available_parallelism().map_or(1, usize::from) {
-            scope.spawn(work);
-        }
-    });
-    fault.into_inner().unwrap()
-}
-
 /// A row that tells slots and calls apart.
 fn row(mark: usize) -> [u32; 8] {
     std::array::from_fn(|word| ((mark * 64 + word) as u32).wrapping_mul(2_654_435_761))
 }
 
-/// Every call that changes something, on a map as it stands.
+/// Every call that may change something, on a map as it stands: a key that is live or was, every choice of a retain.
 fn calls(map: &Beside) -> Vec<Call> {
     let live = map.live_keys();
-    let mark = map.keys().len();
-    let mut calls = vec![Call::Insert(row(mark)), Call::DrainStep, Call::Clear, Call::Drain];
-    for key in &live {
-        calls.push(Call::Remove(*key));
-        calls.push(if mark.is_multiple_of(2) { Call::Write(*key, row(mark)) } else { Call::Replace(*key, row(mark)) });
+    let new = row(map.keys().len());
+    let mut calls = vec![Call::Insert(new), Call::DrainStep, Call::Clear, Call::Drain];
+    for key in map.keys() {
+        calls.extend([Call::Remove(*key), Call::Write(*key, new), Call::Replace(*key, new)]);
     }
     for choice in 0..1_usize << live.len() {
         let mut keep = vec![true; map.used()];
         live.iter().enumerate().filter(|(place, _)| choice >> place & 1 == 1).for_each(|(_, key)| keep[key.0 as usize] = false);
-        calls.push(Call::Retain(keep));
-    }
-    if let Some(dead) = map.keys().iter().rev().find(|key| !live.contains(key)) {
-        calls.push(Call::Remove(*dead));
+        calls.extend([Call::Retain(keep.clone()), Call::RetainWriting(keep)]);
     }
     calls
 }
@@ -66,8 +42,8 @@ pub const LONGEST: usize = 10;
 /// How many histories of 0, 1, 2 .. calls there are from a map.
 type Counts = [u64; LONGEST + 1];
 
-/// All histories of up to so many calls from a map. What a call does depends on the maps alone, so from a state that has been left by another history with as many
-/// calls to go, nothing is made again.
+/// All histories of up to so many calls from a map. What a call does depends on the maps alone, so from a state that has been left by another history
+/// with as many calls to go, nothing is made again.
 struct Every<'t> {
     tally: &'t Tally,
     scratch: Scratch,
@@ -160,13 +136,17 @@ fn any_call(map: &Beside, lean: usize, random: &mut Random) -> Call {
     };
     match random.below(16 + lean) {
         0..=4 => Call::Remove(some(random)),
-        5 if !map.keys().is_empty() => Call::Remove(random.pick(map.keys())),
         5 | 6 => Call::Write(some(random), random.row()),
         7 => Call::Replace(some(random), random.row()),
         8 => Call::DrainStep,
         9 => {
             let kept = random.below(8) + 1;
-            Call::Retain((0..map.used()).map(|_| random.below(8) < kept).collect())
+            let keep = (0..map.used()).map(|_| random.below(8) < kept).collect();
+            if random.once_in(2) {
+                Call::Retain(keep)
+            } else {
+                Call::RetainWriting(keep)
+            }
         }
         10 if random.once_in(6) => Call::Clear,
         10 if random.once_in(5) => Call::Drain,

@@ -15,26 +15,38 @@ pub fn from(first: u32, words: usize) -> Vec<u32> {
     (0..words as u32).map(|more| first.wrapping_add(more)).collect()
 }
 
+/// The first word of a line and its numbers; of a comment nothing.
+pub fn read(line: &str) -> Result<Option<(&str, Vec<u32>)>, String> {
+    let mut words = line.split(' ');
+    let name = words.next().unwrap_or_default();
+    if name.is_empty() || name.starts_with('#') {
+        return Ok(None);
+    }
+    let numbers = words.map(|word| word.parse().map_err(|_| format!("'{word}' is no number"))).collect::<Result<_, _>>()?;
+    Ok(Some((name, numbers)))
+}
+
 fn spaced(words: &[u32]) -> String {
     words.iter().map(|word| format!(" {word}")).collect()
 }
 
-/// A slot as `show` tells it.
-pub struct Shown {
+/// The words of a slot, for `show`.
+pub struct SlotWords {
     pub links: [u32; LINK_WORDS],
     pub row: [u32; ROW_WORDS],
 }
 
 /// What `show` answers.
-pub fn shown(slots: &[Shown]) -> String {
+pub fn show_told(slots: &[SlotWords]) -> String {
     let vacant = |slot: usize| slots.get(slot).is_some_and(|s| s.links[0].is_multiple_of(2));
-    let told = |(slot, s): (usize, &Shown)| {
+    let told = |(slot, s): (usize, &SlotWords)| {
         let [version, next, prev, other_end] = s.links;
-        let more = match () {
-            () if !vacant(slot) => spaced(&s.row),
-            () if slot == 0 || !vacant(slot - 1) => spaced(&[next, prev, other_end]),
-            () if !vacant(slot + 1) => spaced(&[other_end]),
-            () => String::new(),
+        let (front, back) = (slot == 0 || !vacant(slot - 1), !vacant(slot + 1));
+        let more = match (vacant(slot), front, back) {
+            (false, _, _) => spaced(&s.row),
+            (true, true, _) => spaced(&[next, prev, other_end]),
+            (true, false, true) => spaced(&[other_end]),
+            (true, false, false) => String::new(),
         };
         format!("{version}{more}")
     };
@@ -50,12 +62,7 @@ struct Player {
 impl Player {
     /// The answer of a line; a comment or a setting has none.
     fn play(&mut self, line: &str) -> Result<Option<String>, String> {
-        let mut words = line.split(' ');
-        let name = words.next().unwrap_or_default();
-        if name.is_empty() || name.starts_with('#') {
-            return Ok(None);
-        }
-        let numbers = words.map(|word| word.parse().map_err(|_| format!("'{word}' is no number"))).collect::<Result<Vec<u32>, _>>()?;
+        let Some((name, numbers)) = read(line)? else { return Ok(None) };
         match (name, numbers.as_slice()) {
             ("lend", [links, rows]) => self.tables = Tables::of(*links as usize, *rows as usize, || FILL),
             ("header", [used, live]) => self.header = Header { used: *used, live: *live },
@@ -73,11 +80,11 @@ impl Player {
     }
 
     fn show(&self) -> String {
-        let slot = |slot: usize| Shown {
+        let slot = |slot: usize| SlotWords {
             links: self.tables.links()[slot * LINK_WORDS..][..LINK_WORDS].try_into().unwrap(),
             row: self.tables.rows()[slot * ROW_WORDS..][..ROW_WORDS].try_into().unwrap(),
         };
-        shown(&(0..self.header.used as usize).map(slot).collect::<Vec<_>>())
+        show_told(&(0..self.header.used as usize).map(slot).collect::<Vec<_>>())
     }
 
     /// Makes a call; where it is refused, every word and the header must be as they were.

@@ -1,11 +1,14 @@
 //! Runs of the port beside the original. docs/DIFFERENCES.md says where the two may differ; anything else that shows here is a fault.
+mod agree;
 mod answers;
 mod beside;
 mod damaged;
 mod differences;
 mod histories;
+mod jobs;
 mod list;
 mod maker;
+mod mark;
 mod originals;
 mod random;
 mod soundness;
@@ -63,7 +66,7 @@ impl Run {
         self.part("the fixed list", maker::kept);
         self.part("the differences that are known", |tally| differences::differences(100_000, seed, tally));
         self.part("soundness, every table of three slots", soundness::every);
-        let (small, large) = if asked.long { (9, 6) } else { (8, 5) };
+        let (small, large) = if asked.long { (8, 5) } else { (7, 4) };
         self.part(&format!("every history of up to {small} calls at 4 slots"), |tally| histories::every(4, small, seed, tally));
         self.part(&format!("every history of up to {large} calls at 6 slots"), |tally| histories::every(6, large, seed, tally));
     }

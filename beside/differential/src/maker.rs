@@ -186,8 +186,10 @@ pub fn kept(tally: &Tally) -> Result<(), String> {
         return Err(format!("{QUESTIONS} is not {LIST} without its answers"));
     }
     let hand = list.strip_suffix(&vectors).ok_or(format!("{LIST} does not end with {VECTORS}"))?;
-    if oracle::REBUILDS && hand != made()? + "\n" {
-        return Err(format!("{LIST} is not what the original answers: make it again with --make, and see what changed"));
+    if !oracle::REBUILDS {
+        println!("THE FIXED LIST IS NOT MADE AGAIN: ITS REBUILT HISTORIES NEED SERDE");
+    } else if hand != made()? + "\n" {
+        return Err(format!("{LIST} is not what the original answers: make it again with tests/differential --make, and see what changed"));
     }
     list::play(LIST, &list, tally)?;
     by_hand(&vectors, tally)

@@ -1,4 +1,5 @@
-//! The original as it stands and its mended copy, as one oracle: after a start the first, after a rebuild both, and past the parting of document 01 the copy alone.
+//! The original as it stands and its mended copy, as one oracle: after a start the first, after a rebuild both, and past the parting of document 01
+//! the copy alone.
 use oracle::{Key, Mended, Original, Plain, Shown, Words};
 
 /// The calls that change something.
@@ -14,6 +15,8 @@ pub enum Call {
     Clear,
     /// Slots to be kept; a slot past the end is kept.
     Retain(Vec<bool>),
+    /// The same, and the closure writes every row that it is shown.
+    RetainWriting(Vec<bool>),
 }
 
 /// What a call answers, with the orders that show in it.
@@ -26,12 +29,21 @@ pub enum Answer {
     Written(bool),
     Drained(Vec<(Key, Words)>),
     Cleared,
-    /// How many went, and which keys were asked about.
-    Retained(usize, Vec<Key>),
+    /// How many went, and what the closure was shown.
+    Retained(usize, Vec<(Key, Words)>),
 }
 
-pub fn kept(keep: &[bool], key: Key) -> bool {
+fn kept(keep: &[bool], key: Key) -> bool {
     keep.get(key.0 as usize).copied().unwrap_or(true)
+}
+
+/// What the closure of a retain does when it is asked.
+pub fn asked(call: &Call, keep: &[bool], key: Key, row: &mut Words, order: &mut Vec<(Key, Words)>) -> bool {
+    order.push((key, *row));
+    if matches!(call, Call::RetainWriting(_)) {
+        row[7] = row[7].wrapping_add(key.0);
+    }
+    kept(keep, key)
 }
 
 /// What one original answers.
@@ -46,12 +58,9 @@ fn answered(map: &mut impl Original, call: &Call) -> Answer {
             map.clear();
             Answer::Cleared
         }
-        Call::Retain(keep) => {
+        Call::Retain(keep) | Call::RetainWriting(keep) => {
             let (mut order, before) = (Vec::new(), map.count());
-            map.retain(|key| {
-                order.push(key);
-                kept(keep, key)
-            });
+            map.retain(|key, row| asked(call, keep, key, row, &mut order));
             Answer::Retained(before - map.count(), order)
         }
     }
@@ -129,7 +138,7 @@ impl Originals {
         let gone: Vec<Key> = match call {
             Call::Remove(key) => self.get(*key).map(|_| *key).into_iter().collect(),
             // A drain always has slot 0's run on its left, and no other call removes.
-            Call::Retain(keep) => self.walk().into_iter().map(|(key, _)| key).filter(|key| !kept(keep, *key)).collect(),
+            Call::Retain(keep) | Call::RetainWriting(keep) => self.walk().into_iter().map(|(key, _)| key).filter(|key| !kept(keep, *key)).collect(),
             _ => return false,
         };
         let (mut plain, mut mended) = (plain.clone(), mended.clone());

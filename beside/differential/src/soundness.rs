@@ -1,11 +1,12 @@
 //! The soundness check beside its definition, word for word as document 01 has it and as plain as can be, on every small table.
 use hop::{calls, Header, LINK_WORDS, ROW_WORDS};
 
-use crate::histories::shared;
+use crate::jobs::shared;
 use crate::tally::{Kind, Tally};
 
-/// A table is sound when: slot 0 is even; live is the count of odd versions below used; following next from slot 0 visits the front of every run once and comes
-/// back to 0; prev undoes next everywhere on that circle; at each run's front other_end is its back, and at its back other_end is its front.
+/// A table is sound when: slot 0 is even; live is the count of odd versions below used; following next from slot 0 visits the front of every run once
+/// and comes back to 0; prev undoes next everywhere on that circle; at each run's front other_end is its back, and at its back other_end is its
+/// front.
 pub fn sound(links: &[u32], header: Header) -> bool {
     let used = header.used as usize;
     let word = |slot: usize, place: usize| links[slot * LINK_WORDS + place] as usize;

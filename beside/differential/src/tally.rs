@@ -3,51 +3,39 @@ use std::sync::atomic::{AtomicBool, AtomicU64, Ordering::Relaxed};
 use std::time::{Duration, Instant};
 use std::{process, thread};
 
-/// The kinds of things that are counted, in the order in which they are told.
-pub const KINDS: [&str; 19] = [
-    "histories from fresh tables, all there are of their length",
-    "histories from rebuilt tables, all there are of their length",
-    "random histories from fresh tables",
-    "random histories from rebuilt tables",
-    "calls beside the original as it stands",
-    "calls beside its mended copy",
-    "partings",
-    "inserts refused at a full table",
-    "removals of dead keys",
-    "rebuilds refused by both",
-    "keys printed and put into a word",
-    "damaged tables of random words",
-    "damaged tables one word away from a sound one",
-    "calls on damaged tables",
-    "calls on damaged tables that were refused",
-    "tables given to the soundness check and to its definition",
-    "sound ones among them",
-    "answers of the fixed list",
-    "answers written by hand that the original gives too",
-];
+/// Things that are counted, each with the words in which it is told, in that order.
+macro_rules! kinds {
+    ($($kind:ident $told:literal,)*) => {
+        #[derive(Clone, Copy)]
+        #[repr(usize)]
+        pub enum Kind {
+            $($kind,)*
+        }
 
-#[derive(Clone, Copy)]
-#[repr(usize)]
-pub enum Kind {
-    EveryFresh,
-    EveryRebuilt,
-    RandomFresh,
-    RandomRebuilt,
-    Plain,
-    Mended,
-    Partings,
-    Full,
-    Dead,
-    RefusedRebuilds,
-    Keys,
-    RandomWords,
-    OneWord,
-    DamagedCalls,
-    DamagedRefused,
-    Checked,
-    Sound,
-    Listed,
-    ByHand,
+        const KINDS: &[&str] = &[$($told,)*];
+    };
+}
+
+kinds! {
+    EveryFresh "histories from fresh tables, all there are of their length",
+    EveryRebuilt "histories from rebuilt tables, all there are of their length",
+    RandomFresh "random histories from fresh tables",
+    RandomRebuilt "random histories from rebuilt tables",
+    Plain "calls beside the original as it stands",
+    Mended "calls beside its mended copy",
+    Partings "partings",
+    Full "inserts refused at a full table",
+    Dead "removals of dead keys",
+    RefusedRebuilds "rebuilds refused by both",
+    Keys "keys printed and put into a word",
+    RandomWords "damaged tables of random words",
+    OneWord "damaged tables one word away from a sound one",
+    DamagedCalls "calls on damaged tables",
+    DamagedRefused "calls on damaged tables that were refused",
+    Checked "tables given to the soundness check and to its definition",
+    Sound "sound ones among them",
+    Listed "answers of the fixed list",
+    ByHand "answers written by hand that the original gives too",
 }
 
 #[derive(Default)]

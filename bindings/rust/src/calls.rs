@@ -1,7 +1,7 @@
-//! The calls of the archive, as methods of the tables that are lent to them, with every word of their answers: what [`HopSlotMap`](crate::HopSlotMap) is
-//! made of. It is the one module with unsafe code. Every method is sound for any lengths, words, header, key and cursor, whoever calls it. What a pointer
-//! has to be, [`Tables`] sees to; all else the archive is proved to test.
-use core::mem;
+//! The calls of the archive, as methods of the tables that are lent to them, with every word of their answers: what
+//! [`HopSlotMap`](crate::HopSlotMap) is made of. It is the one module with unsafe code. Every method is sound for any lengths, words, header, key and
+//! cursor, whoever calls it. What a pointer has to be, [`Tables`] sees to; all else the archive is proved to test.
+use core::{fmt, mem};
 
 use crate::{Header, Key, Row, ROW_WORDS};
 
@@ -136,10 +136,16 @@ mod archive {
 ///   apart from them;
 /// - a method that writes has `&mut self`, so that nobody else reads or writes meanwhile, and one that reads has `&self`, so that nobody writes;
 /// - where the archive has another layout than this crate, there is no value of this type to call a method of.
-#[derive(Debug)]
 pub struct Tables<'t> {
     links: &'t mut [u32],
     rows: &'t mut [u32],
+}
+
+// How much is lent, and not every word of it.
+impl fmt::Debug for Tables<'_> {
+    fn fmt(&self, to: &mut fmt::Formatter<'_>) -> fmt::Result {
+        to.debug_struct("Tables").field("link_words", &self.links.len()).field("row_words", &self.rows.len()).finish()
+    }
 }
 
 impl<'t> Tables<'t> {
