@@ -197,7 +197,7 @@ pub fn random(count: u64, seed: u64, tally: &Tally) -> Result<(), String> {
         let small = [1, 2, 3, 4, 5, 6, 8, 12, 16, 24, 40, 64];
         let largest = number % 20_000 < 2;
         let lent = if largest { hop::LIMIT } else { random.pick(&small) };
-        let length = if largest { 6_000 } else { 16 + 4 * lent };
+        let length = if largest { 3_000 } else { 16 + 4 * lent };
         history(1_000 + number, lent, length, seed, tally).map_err(|said| format!("{said}\n  in random history {number} with seed {seed}"))
     })
 }
