@@ -1,11 +1,11 @@
--- `replay::store` meets its contract. Assumes nothing.
+-- `replay::words::store` meets its contract. Assumes nothing.
 use Prim.Native.Nat.{_-_}
 use borrow.Author.Tests.{ltb-true}
 use native.Mathlib.Omega.{arith}
 use lib.ListN.{length, length-set}
 use mathlib.Core.Path.{_≡_}
-use Rattle.replay.proofs.store.Statement.{statement}
-use Rattle.replay.proofs.store.Tie as tie
+use Rattle.replay.proofs.words.store.Statement.{statement}
+use Rattle.replay.proofs.words.store.Tie as tie
 
 abbrev Inv-loop : tie.InvT-loop
 Inv-loop table₀ first words at₀ i₀ table at i = length table ≡ length table₀

@@ -1,9 +1,9 @@
--- `replay::number_in` meets its contract. Assumes nothing.
+-- `replay::language::number_in` meets its contract. Assumes nothing.
 use Prim.Native.Nat.{_≤_, _<_, _-_}
 use native.Mathlib.Omega.{arith}
 use lib.ListN.{length}
-use Rattle.replay.proofs.number_in.Statement.{statement}
-use Rattle.replay.proofs.number_in.Tie as tie
+use Rattle.replay.proofs.language.number_in.Statement.{statement}
+use Rattle.replay.proofs.language.number_in.Tie as tie
 
 abbrev Inv-loop : tie.InvT-loop
 Inv-loop digits number₀ seen₀ number seen = (seen ≤ length digits) × (number < 4294967296)

@@ -1,9 +1,9 @@
--- `replay::nth` meets its contract. Assumes nothing.
+-- `replay::language::nth` meets its contract. Assumes nothing.
 use Prim.Native.Nat.{_≤_, _-_}
 use borrow.Author.Tests.{ltb-true}
 use native.Mathlib.Omega.{arith}
-use Rattle.replay.proofs.nth.Statement.{statement}
-use Rattle.replay.proofs.nth.Tie as tie
+use Rattle.replay.proofs.language.nth.Statement.{statement}
+use Rattle.replay.proofs.language.nth.Tie as tie
 
 abbrev Inv-loop : tie.InvT-loop
 Inv-loop text k start₀ i₀ start i = i ≤ k

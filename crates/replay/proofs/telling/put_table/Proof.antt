@@ -1,10 +1,10 @@
--- `replay::put_table` meets its contract. Assumes nothing.
+-- `replay::telling::put_table` meets its contract. Assumes nothing.
 use Prim.Native.Nat.{_≤_, _-_}
 use native.Mathlib.Omega.{arith}
 use lib.ListN.{length}
 use mathlib.Core.Path.{_≡_}
-use Rattle.replay.proofs.put_table.Statement.{statement}
-use Rattle.replay.proofs.put_table.Tie as tie
+use Rattle.replay.proofs.telling.put_table.Statement.{statement}
+use Rattle.replay.proofs.telling.put_table.Tie as tie
 
 abbrev Inv-loop : tie.InvT-loop
 Inv-loop out₀ at links rows used end₀ slot₀ t9 out end slot = (slot ≤ used) × (length out ≡ length out₀) × (end ≤ length out)

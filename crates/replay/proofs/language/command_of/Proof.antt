@@ -1,14 +1,14 @@
--- `replay::command_of` meets its contract. Assumes nothing.
+-- `replay::language::command_of` meets its contract. Assumes nothing.
 use Prim.Native.Nat.{_≤_, _-_}
 use native.Mathlib.Omega.{arith}
-use Rattle.replay.proofs.command_of.Statement.{statement}
-use Rattle.replay.proofs.command_of.Tie as tie
+use Rattle.replay.proofs.language.command_of.Statement.{statement}
+use Rattle.replay.proofs.language.command_of.Tie as tie
 
 abbrev Inv-loop : tie.InvT-loop
-Inv-loop line name k₀ t3 k = k ≤ 20
+Inv-loop line end k₀ t4 k = k ≤ 20
 
 abbrev μ-loop : tie.MeasureT-loop
-μ-loop line name k₀ t3 k = 20 - k
+μ-loop line end k₀ t4 k = 20 - k
 
 returns : tie.Need-returns Inv-loop μ-loop
 returns c = omega arith
@@ -19,8 +19,20 @@ shared-slice-read-if2 c = omega arith
 returns-2 : tie.Need-returns-2 Inv-loop μ-loop
 returns-2 c = omega arith
 
+find-requires : tie.Need-find-requires Inv-loop μ-loop
+find-requires c κs = omega arith
+
 loop-holds : tie.Need-loop-holds Inv-loop μ-loop
 loop-holds c = omega arith
+
+sub-same : tie.Need-sub-same Inv-loop μ-loop
+sub-same c = omega arith
+
+part-same-start : tie.Need-part-same-start Inv-loop μ-loop
+part-same-start c = omega arith
+
+part-same-end : tie.Need-part-same-end Inv-loop μ-loop
+part-same-end c = omega arith
 
 slice-aggregate-nth : tie.Need-slice-aggregate-nth Inv-loop μ-loop
 slice-aggregate-nth c = omega arith
@@ -55,7 +67,11 @@ command-of-spec =
     returns
     shared-slice-read-if2
     returns-2
+    find-requires
     loop-holds
+    sub-same
+    part-same-start
+    part-same-end
     slice-aggregate-nth
     nth-requires
     same-requires

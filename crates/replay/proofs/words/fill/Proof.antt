@@ -1,10 +1,10 @@
--- `replay::fill` meets its contract. Assumes nothing.
+-- `replay::words::fill` meets its contract. Assumes nothing.
 use Prim.Native.Nat.{_≤_, _-_}
 use native.Mathlib.Omega.{arith}
 use lib.ListN.{length, length-set}
 use mathlib.Core.Path.{_≡_}
-use Rattle.replay.proofs.fill.Statement.{statement}
-use Rattle.replay.proofs.fill.Tie as tie
+use Rattle.replay.proofs.words.fill.Statement.{statement}
+use Rattle.replay.proofs.words.fill.Tie as tie
 
 abbrev Inv-loop : tie.InvT-loop
 Inv-loop words₀ first step word₀ i₀ words word i = (i ≤ length words) × (length words ≡ length words₀)

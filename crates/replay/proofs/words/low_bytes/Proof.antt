@@ -1,11 +1,11 @@
--- `replay::low_bytes` meets its contract. Assumes nothing.
+-- `replay::words::low_bytes` meets its contract. Assumes nothing.
 use Prim.Native.Nat.{_≤_, _-_}
 use borrow.Author.Tests.{ltb-true}
 use native.Mathlib.Omega.{arith}
 use lib.ListN.{length, length-set}
 use mathlib.Core.Path.{_≡_}
-use Rattle.replay.proofs.low_bytes.Statement.{statement}
-use Rattle.replay.proofs.low_bytes.Tie as tie
+use Rattle.replay.proofs.words.low_bytes.Statement.{statement}
+use Rattle.replay.proofs.words.low_bytes.Tie as tie
 
 abbrev Inv-loop : tie.InvT-loop
 Inv-loop numbers bytes₀ i₀ bytes i = (i ≤ length bytes) × (length bytes ≡ length bytes₀)

@@ -1,17 +1,20 @@
--- `replay::read_numbers` meets its contract. Assumes nothing.
+-- `replay::language::read_numbers` meets its contract. Assumes nothing.
 use Prim.Native.Nat.{_≤_, _-_}
 use borrow.Author.Tests.{ltb-true}
 use native.Mathlib.Omega.{arith}
 use lib.ListN.{length, length-set}
 use mathlib.Core.Path.{_≡_}
-use Rattle.replay.proofs.read_numbers.Statement.{statement}
-use Rattle.replay.proofs.read_numbers.Tie as tie
+use Rattle.replay.proofs.language.read_numbers.Statement.{statement}
+use Rattle.replay.proofs.language.read_numbers.Tie as tie
 
 abbrev Inv-loop : tie.InvT-loop
-Inv-loop line from numbers₀ count₀ space₀ numbers count space = (count ≤ length numbers) × (length numbers ≡ length numbers₀)
+Inv-loop line numbers₀ count₀ space₀ numbers count space = (count ≤ length numbers) × (length numbers ≡ length numbers₀)
 
 abbrev μ-loop : tie.MeasureT-loop
-μ-loop line from numbers₀ count₀ space₀ numbers count space = length numbers - count
+μ-loop line numbers₀ count₀ space₀ numbers count space = length numbers - count
+
+find-requires : tie.Need-find-requires Inv-loop μ-loop
+find-requires c κs = omega arith
 
 loop-holds : tie.Need-loop-holds Inv-loop μ-loop
 loop-holds c = omega (arith, ltb-true)
@@ -19,8 +22,8 @@ loop-holds c = omega (arith, ltb-true)
 add-start : tie.Need-add-start Inv-loop μ-loop
 add-start c = omega (arith, ltb-true)
 
-find-requires : tie.Need-find-requires Inv-loop μ-loop
-find-requires c κs = omega (arith, ltb-true)
+find-requires-2 : tie.Need-find-requires-2 Inv-loop μ-loop
+find-requires-2 c κs = omega (arith, ltb-true)
 
 sub-number-in : tie.Need-sub-number-in Inv-loop μ-loop
 sub-number-in c = omega (arith, ltb-true)
@@ -67,9 +70,10 @@ read-numbers-spec =
     (tie.spec
     Inv-loop
     μ-loop
+    find-requires
     loop-holds
     add-start
-    find-requires
+    find-requires-2
     sub-number-in
     part-number-in-start
     part-number-in-end

@@ -1,10 +1,10 @@
--- `replay::put_words` meets its contract. Assumes nothing.
+-- `replay::telling::put_words` meets its contract. Assumes nothing.
 use Prim.Native.Nat.{_≤_, _-_}
 use native.Mathlib.Omega.{arith}
 use lib.ListN.{length}
 use mathlib.Core.Path.{_≡_}
-use Rattle.replay.proofs.put_words.Statement.{statement}
-use Rattle.replay.proofs.put_words.Tie as tie
+use Rattle.replay.proofs.telling.put_words.Statement.{statement}
+use Rattle.replay.proofs.telling.put_words.Tie as tie
 
 abbrev Inv-loop : tie.InvT-loop
 Inv-loop out₀ at words end₀ i₀ t7 out end i = (i ≤ length words) × (length out ≡ length out₀) × (end ≤ length out)
