@@ -36,7 +36,7 @@ same-length-4 c = search needs
 
 returns-2 : tie.Need-returns-2
 unfolding drainRule
-returns-2 c = rw (c .rowless2 .ensures) (done-by _ _ _ _ _ (c .before .before .before .before .entry-number .ensures) _ (c .before .before .before .if1 .left) _ (simp (eq-eqb _ _ (c .before .if2 .taken))))
+returns-2 c = rw (c .rowless2 .ensures) (done-by _ _ _ _ _ (c .before .before .before .before .entry-number .ensures) _ (c .before .before .before .if1 .left) _ (rw (eq-eqb _ 0 (c .before .if2 .taken))))
 
 other-end-requires : tie.Need-other-end-requires
 other-end-requires c κs = search needs
@@ -52,7 +52,7 @@ same-length-6 c = search needs
 
 returns-3 : tie.Need-returns-3
 unfolding drainRule
-returns-3 c = rw (c .rowless3 .ensures) (done-by _ _ _ _ _ (c .before .before .before .before .before .before .before .before .entry-number .ensures) _ (c .before .before .before .before .before .before .before .if1 .left) _ (simp (ne-eqb _ _ (c .before .before .before .before .before .if2 .left)) (sym (refused-past-used _ _ _ _ (omega (arith, c .before .if3 .taken, c .before .before .before .other-end .ensures))))))
+returns-3 c = rw (c .rowless3 .ensures) (done-by _ _ _ _ _ (c .before .before .before .before .before .before .before .before .entry-number .ensures) _ (c .before .before .before .before .before .before .before .if1 .left) _ (rw (ne-eqb _ 0 (c .before .before .before .before .before .if2 .left)) (sym (refused-past-used _ _ _ _ (omega (arith, c .before .if3 .taken, c .before .before .before .other-end .ensures))))))
 
 add-drain-at : tie.Need-add-drain-at
 add-drain-at c = search needs
@@ -68,7 +68,7 @@ same-length-8 c = search needs
 
 returns-4 : tie.Need-returns-4
 unfolding drainRule
-returns-4 c = done-by _ _ _ _ _ (c .before .before .before .before .before .before .before .before .before .before .before .before .before .before .entry-number .ensures) _ (c .before .before .before .before .before .before .before .before .before .before .before .before .before .if1 .left) _ (simp (ne-eqb _ _ (c .before .before .before .before .before .before .before .before .before .before .before .if2 .left)) (rw (← c .before .before .before .before .before .before .before .before .before .other-end .ensures) (c .before .before .before .before .drain-at .ensures)))
+returns-4 c = done-by _ _ _ _ _ (c .before .before .before .before .before .before .before .before .before .before .before .before .before .before .entry-number .ensures) _ (c .before .before .before .before .before .before .before .before .before .before .before .before .before .if1 .left) _ (rw (ne-eqb _ 0 (c .before .before .before .before .before .before .before .before .before .before .before .if2 .left), ← c .before .before .before .before .before .before .before .before .before .other-end .ensures) (c .before .before .before .before .drain-at .ensures))
 
 pub drain-step-spec : {M : Type 1} → statement M
 drain-step-spec =
