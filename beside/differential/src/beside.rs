@@ -167,22 +167,9 @@ impl Beside {
     /// Compares everything that the maps show.
     pub fn compare(&mut self, scratch: &mut Scratch, tally: &Tally) -> Result<(), String> {
         let looked_at = self.tables.clone();
-        holds("a guard word changed", self.tables.guarded())?;
-        holds("a word past the slots in use changed", self.tables.same_from(self.used(), &self.before))?;
-        self.vacant_rows()?;
-        let lent = self.lent();
-        let (mut plain, mut mended) = (self.originals.plain.take(), self.originals.mended.take());
-        let walk = &mut scratch.walk;
-        self.with_map(|map| {
-            walk.clear();
-            for visited in map.iter() {
-                let (key, row) = visited.map_err(|refusal| format!("walk: {refusal}"))?;
-                walk.push((told(key), *row));
-            }
-            map.sound().map_err(|refusal| format!("soundness check: {refusal}"))?;
-            same("room", &map.room().ok(), &Some(lent - map.len()))
-        })??;
+        self.look(scratch)?;
         let mut mark = Mark::default();
+        let (mut plain, mut mended) = (self.originals.plain.take(), self.originals.mended.take());
         if let Some(plain) = &mut plain {
             tally.add(Kind::Plain, 1);
             self.compare_with(plain, self.originals.exempt, scratch)?;
@@ -195,14 +182,36 @@ impl Beside {
             self.compare_with(mended, false, scratch)?;
             mark.add_shown(&scratch.shown);
         }
+        (self.originals.plain, self.originals.mended) = (plain, mended);
         holds("a call that only looks changed a word", self.tables == looked_at)?;
+        self.mark = self.marked(mark);
+        Ok(())
+    }
+
+    /// What the port shows by itself: a walk, which is kept, and what no original can say.
+    fn look(&mut self, scratch: &mut Scratch) -> Result<(), String> {
+        holds("a guard word changed", self.tables.guarded())?;
+        holds("a word past the slots in use changed", self.tables.same_from(self.used(), &self.before))?;
+        self.vacant_rows()?;
+        let (lent, walk) = (self.lent(), &mut scratch.walk);
+        walk.clear();
+        self.with_map(|map| {
+            for visited in map.iter() {
+                let (key, row) = visited.map_err(|refusal| format!("walk: {refusal}"))?;
+                walk.push((told(key), *row));
+            }
+            map.sound().map_err(|refusal| format!("soundness check: {refusal}"))?;
+            same("room", &map.room().ok(), &Some(lent - map.len()))
+        })?
+    }
+
+    /// A mark of the originals, with the port's own words and every key.
+    fn marked(&self, mut mark: Mark) -> Mark {
         mark.add_all(self.tables.links());
         mark.add_all(self.tables.rows());
         mark.add_all(&[self.header.used, self.header.live]);
         self.keys.iter().for_each(|key| mark.add_all(&[key.0, key.1]));
-        self.mark = mark;
-        (self.originals.plain, self.originals.mended) = (plain, mended);
-        Ok(())
+        mark
     }
 
     fn vacant_rows(&self) -> Result<(), String> {
@@ -217,14 +226,9 @@ impl Beside {
         same("rows live", &self.live(), &map.count())?;
         same("rows live", &self.header.live, &scratch.shown.live)?;
         self.compare_words(&scratch.shown, exempt)?;
+        // A row that is not ours puts the count past any walk.
         let mut at = 0;
-        let mut agrees = |key: Key, row: &Words| {
-            if scratch.walk.get(at) == Some(&(key, *row)) {
-                at += 1;
-            } else {
-                at = usize::MAX / 2;
-            }
-        };
+        let mut agrees = |key: Key, row: &Words| at = if scratch.walk.get(at) == Some(&(key, *row)) { at + 1 } else { usize::MAX };
         if self.header.live.is_multiple_of(2) {
             map.walk(&mut agrees);
         } else {

@@ -76,7 +76,7 @@ impl Run {
             self.part("rebuilds that are refused", |tally| histories::refused_rebuilds(100_000, seed, tally));
         }
         self.part("random histories", |tally| histories::random(40_000, seed, tally));
-        self.part("damaged tables", |tally| damaged::damaged(8_000_000, seed, tally));
+        self.part("damaged tables", |tally| damaged::damaged(6_000_000, seed, tally));
     }
 }
 

@@ -15,7 +15,7 @@ both-requires-2 c κs = search needs
 
 returns : tie.Need-returns
 unfolding liveKey
-returns c = rw (c .both2 .ensures, c .before .both .ensures, c .before .before .before .version .ensures)
+returns c = cc
 
 pub live-key-spec : {M : Type 1} → statement M
 live-key-spec = tie.close (tie.spec version-requires both-requires both-requires-2 returns)
