@@ -22,34 +22,43 @@ struct Given {
 struct Call {
     name: &'static str,
     numbers: &'static [u32],
-    make: fn(&mut calls::Tables<'_>, &Given) -> calls::Answer,
+    make: fn(&mut Tables, &Given) -> calls::Answer,
 }
 
 const CALLS: [Call; 14] = [
-    Call { name: "start", numbers: &[1], make: |lent, given| lent.start(given.header) },
-    Call { name: "room", numbers: &[1, 2], make: |lent, given| lent.room(given.header) },
-    Call { name: "key_number", numbers: &[1, 2, 3, 4], make: |lent, given| lent.key_number(given.header, given.key) },
-    Call { name: "look", numbers: &[1, 2, 3, 4], make: |lent, given| lent.look(given.header, given.key) },
+    Call { name: "start", numbers: &[1], make: |tables, given| tables.calls().start(given.header) },
+    Call { name: "room", numbers: &[1, 2], make: |tables, given| tables.calls().room(given.header) },
+    Call { name: "key_number", numbers: &[1, 2, 3, 4], make: |tables, given| tables.calls().key_number(given.header, given.key) },
+    Call { name: "look", numbers: &[1, 2, 3, 4], make: |tables, given| tables.calls().look(given.header, given.key) },
     Call { name: "look_mut", numbers: &[1, 2, 3, 4], make: looked_through },
-    Call { name: "replace", numbers: &[1, 2, 3, 4], make: |lent, given| lent.replace(given.header, given.key, &given.side) },
-    Call { name: "insert", numbers: &[1, 2, 5], make: |lent, given| lent.insert(given.header, &given.side) },
-    Call { name: "remove", numbers: &[1, 2, 3, 4], make: |lent, given| lent.remove(given.header, given.key) },
-    Call { name: "hop_step", numbers: &[1, 2, 6], make: |lent, given| lent.hop_step(given.header, given.cursor) },
-    Call { name: "drain_step", numbers: &[1, 2], make: |lent, given| lent.drain_step(given.header) },
-    Call { name: "clear", numbers: &[1, 2], make: |lent, given| lent.clear(given.header) },
-    Call { name: "retain", numbers: &[1, 2], make: |lent, given| lent.retain(given.header, &given.bytes) },
-    Call { name: "rebuild", numbers: &[1, 7, 8], make: |lent, given| lent.rebuild(given.header, &given.bytes) },
-    Call { name: "sound", numbers: &[1, 2], make: |lent, given| lent.sound(given.header) },
+    Call { name: "replace", numbers: &[1, 2, 3, 4], make: |tables, given| tables.calls().replace(given.header, given.key, &given.side) },
+    Call { name: "insert", numbers: &[1, 2, 5], make: |tables, given| tables.calls().insert(given.header, &given.side) },
+    Call { name: "remove", numbers: &[1, 2, 3, 4], make: |tables, given| tables.calls().remove(given.header, given.key) },
+    Call { name: "hop_step", numbers: &[1, 2, 6], make: |tables, given| tables.calls().hop_step(given.header, given.cursor) },
+    Call { name: "drain_step", numbers: &[1, 2], make: |tables, given| tables.calls().drain_step(given.header) },
+    Call { name: "clear", numbers: &[1, 2], make: |tables, given| tables.calls().clear(given.header) },
+    Call { name: "retain", numbers: &[1, 2], make: |tables, given| tables.calls().retain(given.header, &given.bytes) },
+    Call { name: "rebuild", numbers: &[1, 7, 8], make: |tables, given| tables.calls().rebuild(given.header, &given.bytes) },
+    Call { name: "sound", numbers: &[1, 2], make: |tables, given| tables.calls().sound(given.header) },
 ];
 
-/// The Rust surface's look to write through has no number of its own: it asks for the key's, and hands out the row of its slot.
-fn looked_through(lent: &mut calls::Tables<'_>, given: &Given) -> calls::Answer {
-    let answer = lent.key_number(given.header, given.key);
+/// A look to write through, by the Rust surface. It has no number of its own: the key's is told. A row must be handed out exactly for a live key, and
+/// what is written must stand in that row alone; an answer of no kind tells where it is not so.
+fn looked_through(tables: &mut Tables, given: &Given) -> calls::Answer {
+    let mut wanted = tables.clone();
+    let answer = tables.calls().key_number(given.header, given.key);
     if answer.kind == calls::DONE {
         let first = given.key.index as usize * ROW_WORDS;
-        lent.rows_mut()[first..first + ROW_WORDS].iter_mut().for_each(|word| *word = !*word);
+        wanted.lent().1[first..first + ROW_WORDS].iter_mut().for_each(|word| *word = !*word);
     }
-    answer
+    let (links, rows) = tables.lent();
+    if let Ok(mut map) = HopSlotMap::with_header(links, rows, given.header) {
+        map.get_mut(given.key).into_iter().flatten().for_each(|word| *word = !*word);
+    }
+    if *tables == wanted {
+        return answer;
+    }
+    calls::Answer { kind: calls::REFUSED + 1, ..answer }
 }
 
 /// Number 1, as document 01 has it: of start and rebuild the lent buffers alone, of the others the header too, and of each its side buffer.
@@ -200,7 +209,7 @@ fn every_call(tables: &Tables, header: Header, random: &mut Random, tally: &Tall
     for call in &CALLS {
         let given = given(tables, header, random);
         let mut after = tables.clone();
-        let answer = (call.make)(&mut after.calls(), &given);
+        let answer = (call.make)(&mut after, &given);
         if let Some(said) = fault(call, tables, &after, &given, &answer) {
             let (links, rows) = (tables.links(), tables.rows());
             return Err(format!("{}: {said}\n  answer {answer:?}\n  given {given:?}\n  links {links:?}\n  rows {rows:?}", call.name));
