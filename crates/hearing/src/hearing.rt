@@ -15,8 +15,8 @@ use slots::choice::one_below;
 use wire::Body;
 use wire::Command;
 use wire::Saying;
-use wire::commands::body_length;
-use wire::commands::command_of;
+use wire::kinds::body_length;
+use wire::kinds::command_of;
 
 // The body with its byte i.
 fn with_byte(body: Body, i: u32, b: u8) -> Body

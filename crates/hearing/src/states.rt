@@ -8,7 +8,7 @@ use commands::Stream;
 use hop::Cursor;
 use hop::Header;
 use wire::BODY_BYTES;
-use wire::commands::body_length;
+use wire::kinds::body_length;
 
 // Before the first byte, with the header that start or rebuild has handed back.
 pub fn opened(header: Header) -> Stream

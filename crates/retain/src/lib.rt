@@ -6,8 +6,8 @@ use refusals::side_entry_number;
 use rules::CountAnswer;
 use rules::Header;
 use rules::Retained;
-use scan::scan;
 use sound::sound_number;
+use strike::scan;
 
 fn retain_number(links: &[u32], rows: &[u32], header: Header, bytes: &[u8]) -> u32
     ensures { λ r. ⌜ r ≡ retainNumber (now (links .entry)) (now (rows .entry)) header (now (bytes .entry)) ⌝ }

@@ -1,5 +1,5 @@
 // The bytes of the command stream: the kinds of commands, words as bytes, and what may be replied, which the crate replies writes.
-pub mod commands;
+pub mod kinds;
 pub mod words;
 
 use rules::Key;

@@ -2,8 +2,8 @@
 use Rattle.runs.specs.Scans.{strikeOut}
 use borrow.Author.Tests.{eq-eqb, ne-eqb}
 use borrow.Author.Needs.{needs}
-use Rattle.scan.proofs.strike_out.Statement.{statement}
-use Rattle.scan.proofs.strike_out.Tie as tie
+use Rattle.strike.proofs.strike_out.Statement.{statement}
+use Rattle.strike.proofs.strike_out.Tie as tie
 
 byte-at-requires : tie.Need-byte-at-requires
 byte-at-requires c κs = search needs

@@ -13,8 +13,8 @@ use native.Mathlib.Omega.{arith}
 use lib.ListN.{length}
 use denote.Ref.{now}
 use borrow.Author.Needs.{needs}
-use Rattle.scan.proofs.scan.Statement.{statement}
-use Rattle.scan.proofs.scan.Tie as tie
+use Rattle.strike.proofs.scan.Statement.{statement}
+use Rattle.strike.proofs.scan.Tie as tie
 
 module _ (chosen : ℕ → Bool) where
   -- one slot more

@@ -1,8 +1,8 @@
--- `wire::commands::command_of` meets its contract: at each single byte by the byte, at the rest by the five that it is not. Assumes nothing.
+-- `wire::kinds::command_of` meets its contract: at each single byte by the byte, at the rest by the five that it is not. Assumes nothing.
 use borrow.Author.Tests.{ne-eqb}
 use Rattle.wire.specs.Commands.{commandOf}
-use Rattle.wire.proofs.commands.command_of.Statement.{statement}
-use Rattle.wire.proofs.commands.command_of.Tie as tie
+use Rattle.wire.proofs.kinds.command_of.Statement.{statement}
+use Rattle.wire.proofs.kinds.command_of.Tie as tie
 
 returns : tie.Need-returns
 unfolding commandOf

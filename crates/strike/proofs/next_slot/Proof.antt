@@ -1,8 +1,8 @@
 -- `scan::next_slot` meets its contract. Assumes nothing.
 use Rattle.runs.specs.Scans.{nextSlot}
 use borrow.Author.Needs.{needs}
-use Rattle.scan.proofs.next_slot.Statement.{statement}
-use Rattle.scan.proofs.next_slot.Tie as tie
+use Rattle.strike.proofs.next_slot.Statement.{statement}
+use Rattle.strike.proofs.next_slot.Tie as tie
 
 wrapping-add-u32-requires : tie.Need-wrapping-add-u32-requires
 wrapping-add-u32-requires c κs = search needs
