@@ -1,4 +1,5 @@
-/* A short season, with every call of the map: buoys are heard, moved and lost, a slot is used again, and an old key stays dead. */
+/* A short season, with every call of the map: buoys are heard, moved and lost, a slot is used again, and an old key stays dead. It tells what
+ * happens as it goes; a key is written (slot, version). */
 #include "hop.h"
 
 #include <inttypes.h>
@@ -63,9 +64,14 @@ static struct hop_answer step_from(uint32_t cursor)
     return taken("step", hop_step(LENT, cursor));
 }
 
+static void tell(const char *what)
+{
+    printf("\n%s\n", what);
+}
+
 static void show(const char *what, struct hop_key key, const uint32_t *row)
 {
-    printf("%s (%" PRIu32 ", %" PRIu32 "): buoy %" PRIu32 " at %" PRIu32 ", %" PRIu32 "\n", what, key.index, key.version,
+    printf("  %s (%" PRIu32 ", %" PRIu32 "): buoy %" PRIu32 " at %" PRIu32 ", %" PRIu32 "\n", what, key.index, key.version,
            row[BUOY], row[NORTH], row[EAST]);
 }
 
@@ -73,7 +79,7 @@ static void room(void)
 {
     struct hop_answer answer = taken("room", hop_room(LENT));
 
-    printf("room: %" PRIu32 " of %u\n", answer.count, SLOTS);
+    printf("  room: %" PRIu32 " of %u\n", answer.count, SLOTS);
 }
 
 static void walk(void)
@@ -82,7 +88,7 @@ static void walk(void)
 
     while (step.kind == HOP_ANSWER) {
         struct hop_answer found = taken("look", look(step.key));
-        show("  live", found.key, found.row);
+        show("live", found.key, found.row);
         step = step_from(step.cursor);
     }
     printf("  %" PRIu32 " live, %" PRIu32 " slots in use\n", header.live, header.used);
@@ -97,7 +103,7 @@ static struct hop_key heard(uint32_t buoy, uint32_t north, uint32_t east)
     side[NORTH] = north;
     side[EAST] = east;
     answer = taken("insert", hop_insert(LENT, side, HOP_ROW_WORDS));
-    printf("buoy %" PRIu32 " heard: key (%" PRIu32 ", %" PRIu32 ")\n", buoy, answer.key.index, answer.key.version);
+    printf("  buoy %" PRIu32 " heard: key (%" PRIu32 ", %" PRIu32 ")\n", buoy, answer.key.index, answer.key.version);
     return answer.key;
 }
 
@@ -128,12 +134,13 @@ static void keep_south_of(uint32_t north)
     uint8_t keep[SLOTS] = {0};
     struct hop_answer answer = step_from(0);
 
+    printf("\nA storm takes what lies north of %" PRIu32 ":\n", north);
     while (answer.kind == HOP_ANSWER) {
         keep[answer.key.index] = taken("look", look(answer.key)).row[NORTH] < north;
         answer = step_from(answer.cursor);
     }
     answer = taken("retain", hop_retain(LENT, keep, header.used));
-    printf("%" PRIu32 " lost in the north\n", answer.count);
+    printf("  %" PRIu32 " lost\n", answer.count);
 }
 
 /* The header and the chain of vacant slots are lost; versions and rows are still there, and whoever knows which slots were live makes a map of
@@ -144,6 +151,7 @@ static void power_cut(void)
     size_t slots = header.used, slot;
     struct hop_answer answer = step_from(0);
 
+    tell("The power fails. Header and chain are gone, versions and rows are not:");
     while (answer.kind == HOP_ANSWER) {
         presence[answer.key.index] = 1;
         answer = step_from(answer.cursor);
@@ -154,48 +162,73 @@ static void power_cut(void)
     }
     taken("rebuild", hop_rebuild(LENT, presence, slots));
     taken("sound", hop_sound(LENT));
-    printf("power cut, and back\n");
+    printf("  rebuilt, and sound\n");
+}
+
+static void begun(void)
+{
+    printf("\nA receiver lends tables for %u slots. Slot 0 takes no buoy, so %u fit:\n", SLOTS, SLOTS - 1);
+    taken("start", hop_start(LENT));
+    room();
+}
+
+/* The mark of a buoy that is lost still has its key. */
+static void lost(struct hop_key key)
+{
+    struct hop_answer answer;
+
+    tell("A buoy is lost. A mark that still has its key is told so:");
+    answer = taken("remove", hop_remove(LENT, key.index, key.version));
+    show("lost", answer.key, answer.row);
+    answer = kept("look", look(key));
+    printf("  look at its key: refused with %" PRIu32 ", %s\n", answer.number, name_of(answer.number));
+    printf("  its row: %s\n", row_of(key) == NULL ? "none to write to" : "still there");
+}
+
+static void heard_after(struct hop_key old)
+{
+    struct hop_key key;
+
+    tell("Another buoy is heard. It gets the freed slot, and the old key does not fit it:");
+    key = heard(58, 54020, 7750);
+    printf("  slot %" PRIu32 ": version %" PRIu32 " after %" PRIu32 "\n", key.index, key.version, old.version);
+}
+
+static void hauled_in(void)
+{
+    struct hop_answer answer;
+
+    tell("The season ends. One buoy is hauled in, then all the others:");
+    answer = taken("drain step", hop_drain_step(LENT));
+    show("hauled in", answer.key, answer.row);
+    answer = taken("clear", hop_clear(LENT));
+    printf("  clear: %s\n", answer.kind == HOP_DONE ? "done" : "not done");
 }
 
 int main(void)
 {
-    struct hop_key first, second, third, again;
-    struct hop_answer answer;
+    struct hop_key first, second, third;
 
     if (hop_layout() != HOP_LAYOUT) {
         printf("the archive has layout %" PRIu32 ", and not %u: compile anew with its header file\n", hop_layout(), HOP_LAYOUT);
         return 1;
     }
-    taken("start", hop_start(LENT));
-    room();
-
+    begun();
+    tell("Three buoys are heard, and each mark on the plot gets a key:");
     first = heard(17, 54100, 7900);
     second = heard(23, 54250, 8010);
     third = heard(42, 54300, 8105);
-    answer = taken("look", look(second));
-    show("look", answer.key, answer.row);
-
-    answer = taken("remove", hop_remove(LENT, second.index, second.version));
-    show("lost", answer.key, answer.row);
-    answer = kept("look", look(second));
-    printf("its key: refused with %" PRIu32 ", %s\n", answer.number, name_of(answer.number));
-    printf("its row: %s\n", row_of(second) == NULL ? "none to write to" : "still there");
-
-    again = heard(58, 54020, 7750);
-    printf("slot %" PRIu32 " used again: version %" PRIu32 " after %" PRIu32 "\n", again.index, again.version, second.version);
+    lost(second);
+    heard_after(second);
+    tell("One buoy is renumbered, one has drifted. A walk over the map:");
     renumbered(first, 71);
     drifted(third, 54320);
     walk();
-
     keep_south_of(54110);
     power_cut();
     walk();
     room();
-
-    answer = taken("drain step", hop_drain_step(LENT));
-    show("hauled in", answer.key, answer.row);
-    answer = taken("clear", hop_clear(LENT));
-    printf("season over: %s\n", answer.kind == HOP_DONE ? "done" : "not done");
+    hauled_in();
     walk();
     room();
     return 0;
