@@ -3,6 +3,7 @@ ghost use mathlib.Core.Path.{_≡_};
 ghost use Prim.Native.Nat.{_+_};
 ghost use lib.ListN.{length};
 ghost use Rattle.rules.specs.Access.{lookRule, lookStart};
+use refusals::PASSES;
 use refusals::key_number;
 use rules::Header;
 use rules::Key;
@@ -20,7 +21,7 @@ pub fn row_span(links: &[u32], rows: &[u32], header: Header, key: Key) -> Span
     ensures { λ r. ⌜ r .end ≡ lookStart (now (links .entry)) (now (rows .entry)) header key + length (lookRule (now (links .entry)) (now (rows .entry)) header key) ⌝ }
 {
     let index = key.index as usize;
-    if key_number(links, rows, header, key) != 0 {
+    if key_number(links, rows, header, key) != PASSES {
         return Span { start: 0, end: 0 };
     }
     let start = index * ROW_WORDS;

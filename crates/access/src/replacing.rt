@@ -2,6 +2,7 @@
 ghost use mathlib.Core.Path.{_≡_};
 ghost use Rattle.rules.specs.Values.{numbered};
 ghost use Rattle.rules.specs.Access.{replaceNumber, replaceRule};
+use refusals::PASSES;
 use refusals::live_number;
 use refusals::side_entry_number;
 use rules::Header;
@@ -23,7 +24,7 @@ pub fn replace(links: &[u32], rows: &mut [u32], header: Header, key: Key, side: 
 {
     let index = key.index as usize;
     let number = replace_number(links, &rows[..], header, key, side);
-    if number != 0 {
+    if number != PASSES {
         return Numbered { number, header };
     }
     let at = index * ROW_WORDS;

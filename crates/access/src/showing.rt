@@ -2,6 +2,7 @@
 ghost use mathlib.Core.Path.{_≡_};
 ghost use Rattle.rules.specs.Values.{shown};
 ghost use Rattle.rules.specs.Access.{lookRowRule};
+use refusals::PASSES;
 use refusals::key_number;
 use rules::Header;
 use rules::Key;
@@ -15,7 +16,7 @@ pub fn look_row(links: &[u32], rows: &[u32], header: Header, key: Key) -> Shown
     ensures { λ r. ⌜ shown r (now (links .entry)) (now (rows .entry)) ≡ lookRowRule (now (links .entry)) (now (rows .entry)) header key ⌝ }
 {
     let number = key_number(links, rows, header, key);
-    if number != 0 {
+    if number != PASSES {
         return Shown {
             answer: KeyAnswer::Refused(number),
             row: [0u32; ROW_WORDS],

@@ -4,6 +4,7 @@ ghost use Prim.Native.Nat.{_+_};
 ghost use Rattle.rules.specs.Values.{plain, done, drained, cleared};
 ghost use Rattle.rules.specs.Clear.{drainTimes, clearRule};
 use drain_step::drain_step;
+use refusals::PASSES;
 use refusals::entry_number;
 use rules::ClearAnswer;
 use rules::Cleared;
@@ -31,7 +32,7 @@ pub fn clear(links: &mut [u32], rows: &mut [u32], header: Header) -> Cleared
 {
     let entry = entry_number(links, rows, header);
     let number = sound_number(entry, links, header);
-    if number != 0 {
+    if number != PASSES {
         return Cleared {
             answer: ClearAnswer::Refused(number),
             header,

@@ -4,6 +4,7 @@ ghost use Rattle.rules.specs.Words.{zeroRow};
 ghost use Rattle.rules.specs.Values.{ofKey, ofDrain, drained};
 ghost use Rattle.rules.specs.Remove.{removeAt};
 ghost use Rattle.rules.specs.Drain.{drainRule};
+use refusals::PASSES;
 use refusals::entry_number;
 use remove::remove_at;
 use rules::DAMAGED;
@@ -55,7 +56,7 @@ pub fn drain_step(links: &mut [u32], rows: &mut [u32], header: Header) -> Draine
     ensures { λ r. ⌜ drained r (now (links .exit)) (now (rows .exit)) ≡ drainRule (now (links .entry)) (now (rows .entry)) header ⌝ }
 {
     let number = entry_number(links, rows, header);
-    if number != 0 {
+    if number != PASSES {
         return rowless(DrainAnswer::Refused(number), header);
     }
     if header.live == 0 {

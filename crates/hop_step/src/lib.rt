@@ -9,6 +9,7 @@ ghost use Rattle.rules.specs.Values.{ofHop, done, refused, hopped};
 ghost use Rattle.rules.specs.Refusals.{damaged};
 ghost use Rattle.rules.specs.Hop.{visit, hopFrom, hopRule};
 use parity::past_front;
+use refusals::PASSES;
 use refusals::entry_number;
 use rules::Cursor;
 use rules::DAMAGED;
@@ -85,7 +86,7 @@ pub fn hop_step(links: &[u32], rows: &[u32], header: Header, cursor: Cursor) -> 
     ensures { λ r. ⌜ hopped r (now (links .entry)) (now (rows .entry)) ≡ hopRule (now (links .entry)) (now (rows .entry)) header cursor ⌝ }
 {
     let number = entry_number(links, rows, header);
-    if number != 0 {
+    if number != PASSES {
         return Hopped {
             answer: HopAnswer::Refused(number),
             header,

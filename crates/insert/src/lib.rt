@@ -8,6 +8,7 @@ ghost use Rattle.rules.specs.Insert.{takeNew, takeSlot, insertStep, insertRule}
 use chain::shorten;
 use followed::insert_links;
 use followed::insert_number;
+use refusals::PASSES;
 use rules::Header;
 use rules::Inserted;
 use rules::Key;
@@ -87,7 +88,7 @@ pub fn insert(links: &mut [u32], rows: &mut [u32], header: Header, side: &[u32])
 {
     let x = insert_links(links, header.used);
     let number = insert_number(links, rows, header, side, x);
-    if number != 0 {
+    if number != PASSES {
         return Inserted {
             answer: KeyAnswer::Refused(number),
             header,

@@ -7,6 +7,7 @@ ghost use Prim.Native.Nat.{_<_};
 ghost use Rattle.rules.specs.Remove.{beside, removeStep, removeSlot, removeAt, removeRule};
 use chain::free;
 use followed::remove_number;
+use refusals::PASSES;
 use refusals::key_number;
 use rules::DAMAGED;
 use rules::Header;
@@ -75,7 +76,7 @@ fn remove_slot(links: &mut [u32], rows: &mut [u32], header: Header, key: Key) ->
 {
     let x = beside(links, header.used, key.index);
     let damage = remove_number(links, header, x);
-    if damage != 0 {
+    if damage != PASSES {
         return refused(header, damage);
     }
     remove_step(links, rows, header, key, x)
@@ -100,7 +101,7 @@ pub fn remove(links: &mut [u32], rows: &mut [u32], header: Header, key: Key) -> 
     ensures { λ r. ⌜ removed r (now (links .exit)) (now (rows .exit)) ≡ removeRule (now (links .entry)) (now (rows .entry)) header key ⌝ }
 {
     let number = key_number(links, rows, header, key);
-    if number != 0 {
+    if number != PASSES {
         return refused(header, number);
     }
     remove_slot(links, rows, header, key)

@@ -2,6 +2,7 @@
 ghost use mathlib.Core.Path.{_≡_};
 ghost use Rattle.rules.specs.Values.{retained};
 ghost use Rattle.rules.specs.Retain.{retainNumber, retainRule};
+use refusals::PASSES;
 use refusals::side_entry_number;
 use rules::CountAnswer;
 use rules::Header;
@@ -21,7 +22,7 @@ pub fn retain(links: &mut [u32], rows: &mut [u32], header: Header, bytes: &[u8])
     ensures { λ r. ⌜ retained r (now (links .exit)) (now (rows .exit)) ≡ retainRule (now (links .entry)) (now (rows .entry)) header (now (bytes .entry)) ⌝ }
 {
     let number = retain_number(links, rows, header, bytes);
-    if number != 0 {
+    if number != PASSES {
         return Retained {
             answer: CountAnswer::Refused(number),
             header,

@@ -2,6 +2,7 @@
 ghost use mathlib.Core.Path.{_≡_};
 ghost use Rattle.rules.specs.Values.{numbered, roomed};
 ghost use Rattle.rules.specs.Start.{startRule, roomRule};
+use refusals::PASSES;
 use refusals::entry_number;
 use refusals::lent_number;
 use rules::CountAnswer;
@@ -18,13 +19,13 @@ pub fn start(links: &mut [u32], rows: &mut [u32], header: Header) -> Numbered
     ensures { λ r. ⌜ numbered r (now (links .exit)) (now (rows .exit)) ≡ startRule (now (links .entry)) (now (rows .entry)) header ⌝ }
 {
     let number = lent_number(links.len(), rows.len());
-    if number != 0 {
+    if number != PASSES {
         return Numbered { number, header };
     }
     new_slot(links, 0, 0);
     clear_row(rows, 0);
     Numbered {
-        number: 0,
+        number: PASSES,
         header: fresh(),
     }
 }
@@ -34,7 +35,7 @@ pub fn room(links: &[u32], rows: &[u32], header: Header) -> Roomed
     ensures { λ r. ⌜ roomed r (now (links .entry)) (now (rows .entry)) ≡ roomRule (now (links .entry)) (now (rows .entry)) header ⌝ }
 {
     let number = entry_number(links, rows, header);
-    if number != 0 {
+    if number != PASSES {
         return Roomed {
             answer: CountAnswer::Refused(number),
             header,
