@@ -2,12 +2,12 @@
 use Prim.Native.Nat.{ℕ, zero, suc, _+_, _-_, _*_, _/_, _%_, _≤_, _<_}
 use mathlib.Core.List.{List, [], _∷_, _++_}
 use mathlib.Core.Bool.{true, false}
-use mathlib.Core.Path.{_≡_, refl, sym, ap, _∙_}
+use mathlib.Core.Path.{_≡_, refl, sym, _∙_}
 use native.Mathlib.Omega.{arith}
 use native.Mathlib.Numerals.{add-one}
-use lib.ListN.{length, getD, set, take, replicate, length-set, length-replicate, getD-replicate}
+use lib.ListN.{length, set, take, replicate, length-set, length-replicate, getD-replicate}
 use lib.Seq.{getD-set-same, getD-set-other}
-use lib.Dec.{eqb, ltb, leb}
+use lib.Dec.{eqb, leb}
 use borrow.Author.Tests.{not-false, ltb-true, leb-true, eqb-true, lt-ltb, le-ltb, eq-eqb, ne-eqb}
 use Rattle.rules.specs.Words.{limit, linkWords, rowWords, linkAt, versionAt, nextAt, otherEndAt, vacantAt, occupiedAt, keyAt}
 use Rattle.rules.specs.Values.{Outcome, unless}
@@ -22,7 +22,6 @@ use Rattle.rules.proofs.Shape.{shaped}
 use Rattle.rules.proofs.SlotTests.{vacant-yes, occupied-yes}
 use Rattle.rules.proofs.Links.{insert-passed}
 use Rattle.rules.proofs.HopSteps.{over-run}
-use Rattle.history.specs.Calls.{ask, hop}
 use Rattle.history.specs.Histories.{left}
 use Rattle.wire.specs.declared.Command.{Command}
 use Rattle.wire.specs.Commands.{bodyBytes}
@@ -30,7 +29,7 @@ use Rattle.commands.specs.Turns.{Run}
 use Rattle.commands.specs.declared.Phase.{Phase}
 use Rattle.commands.specs.declared.Stream.{Stream}
 use Rattle.hearing.specs.Heard.{possibleIn, possible}
-use Rattle.stream.specs.Feeding.{feedNumber, piece}
+use Rattle.stream.specs.Feeding.{feedNumber}
 use Rattle.course.specs.Pieces.{none}
 use Rattle.course.proofs.Possible.{pieces-possible}
 use Rattle.course.proofs.Ways.{zeros, wayIn, kindByte, Leads, from-start, gathering-from, ended-from, walking-from}

@@ -1,10 +1,10 @@
 -- A feed that is not refused leaves a state that the next feed takes, on any tables. Assumes nothing.
 use Prim.Native.Nat.{ℕ, _+_, zero, suc}
 use mathlib.Core.List.{List}
-use mathlib.Core.Bool.{Bool, true, false}
+use mathlib.Core.Bool.{Bool, true}
 use mathlib.Core.Path.{_≡_, refl, ap}
 use native.Mathlib.Omega.{arith}
-use lib.ListN.{length, getD, take}
+use lib.ListN.{length, getD}
 use lib.Dec.{ltb, eqb, leb}
 use borrow.Author.Tests.{not-false, ne-eqb, le-leb, ltb-false, eqb-false}
 use Rattle.rules.specs.Values.{Kind, gives, ends, refuses, Outcome}
@@ -12,13 +12,13 @@ use Rattle.rules.specs.declared.Header.{Header}
 use Rattle.rules.proofs.Choice.{by-pick, both-true}
 use Rattle.rules.proofs.Refusals.{passed}
 use Rattle.history.specs.Calls.{ask, hop}
-use Rattle.history.specs.Histories.{Table, outcome, left}
+use Rattle.history.specs.Histories.{Table, outcome}
 use Rattle.wire.specs.declared.Command.{Command}
 use Rattle.wire.specs.Commands.{commandOf, bodyLength}
 use Rattle.commands.specs.Turns.{Run, Turned, tableOf, commandTurn, walkBy, walkTurn}
 use Rattle.commands.specs.declared.Phase.{Phase}
 use Rattle.hearing.specs.Heard.{gathered, withByte, heardIn, heard, possibleIn, possible, walksIn, cursorIn}
-use Rattle.stream.specs.Feeding.{Feeding, phaseOf, fedIn, fedOnce, going, fedWhole, begun, feedNumber, feedRule, heardOnce, waits, Piece, piece}
+use Rattle.stream.specs.Feeding.{Feeding, phaseOf, fedIn, fedOnce, going, fedWhole, begun, feedNumber, feedRule, heardOnce, waits}
 use Rattle.stream.proofs.Repeats.{kept}
 use Rattle.course.proofs.Walks.{Further, hop-further, walk-table}
 use Rattle.course.proofs.FedTurns.{unrefused, fed-to-end}

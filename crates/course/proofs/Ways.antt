@@ -1,6 +1,6 @@
 -- Bytes that lead to a state, on tables that refuse every insert: a body poured in as a row that is refused, then the way to each phase.
 -- Assumes nothing.
-use Prim.Native.Nat.{ℕ, zero, suc, _+_, _≤_, _<_}
+use Prim.Native.Nat.{ℕ, suc, _+_, _≤_, _<_}
 use mathlib.Core.List.{List, [], _∷_, _++_, append-nil}
 use mathlib.Core.Bool.{true, false}
 use mathlib.Core.Path.{_≡_, refl, ap, _∙_, subst}
@@ -9,16 +9,14 @@ use native.Mathlib.Nat.{zero-add}
 use native.Mathlib.Numerals.{add-one}
 use lib.ListN.{length, set, take, drop, replicate, take-append-drop}
 use lib.Seq.{sets, sets-eq, length-take-le}
-use lib.Dec.{eqb, ltb, leb}
 use borrow.Author.Tests.{eqb-false, lt-ltb, lt-leb}
 use Rattle.rules.specs.Values.{visited}
 use Rattle.rules.specs.Refusals.{_▸_, shapeNumber}
 use Rattle.rules.specs.Insert.{insertRule}
-use Rattle.rules.specs.Hop.{visit, hopRule}
+use Rattle.rules.specs.Hop.{hopRule}
 use Rattle.rules.specs.declared.Header.{Header}
 use Rattle.rules.specs.declared.Key.{Key}
 use Rattle.rules.proofs.Choice.{both-if}
-use Rattle.history.specs.Calls.{hop}
 use Rattle.history.specs.Histories.{Table, left}
 use Rattle.wire.specs.declared.Command.{Command}
 use Rattle.wire.specs.Words.{rowIn}
@@ -27,7 +25,7 @@ use Rattle.wire.specs.Replies.{sayingBytes, longest, fits, replied, repliedTo}
 use Rattle.wire.proofs.Output.{replied-keeps}
 use Rattle.commands.specs.Turns.{Run, walkTurn}
 use Rattle.commands.specs.declared.Phase.{Phase}
-use Rattle.hearing.specs.Heard.{gathered, heard, walksIn, possibleIn, possible}
+use Rattle.hearing.specs.Heard.{heard, walksIn, possibleIn, possible}
 use Rattle.stream.specs.Feeding.{replyOf, Feeding, phaseOf, following, heardOnce, fedIn, fedOnce, waitsIn, waits, going, fedWhole, feedNumber, Piece, piece, begun, feedRule}
 use Rattle.stream.proofs.Repeats.{stopped, onward}
 use Rattle.stream.proofs.Spoken.{walk-speaks}

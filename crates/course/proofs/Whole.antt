@@ -12,7 +12,7 @@ use Rattle.rules.proofs.Refusals.{passed}
 use Rattle.wire.specs.Replies.{longest, fits}
 use Rattle.commands.specs.Turns.{Run}
 use Rattle.hearing.specs.Heard.{walksIn, endedOf}
-use Rattle.stream.specs.Feeding.{replyOf, Piece, piece, feedNumber, finishRule}
+use Rattle.stream.specs.Feeding.{replyOf, Piece, feedNumber, finishRule}
 use Rattle.course.specs.Course.{Course, spokenAfter, whole}
 use Rattle.course.specs.Pieces.{writtenOf, Pieces}
 use Rattle.stream.proofs.Spoken.{ended-fits}

@@ -15,7 +15,6 @@ use Rattle.rules.specs.Runs.{oddCount}
 use Rattle.rules.specs.declared.Header.{Header}
 use Rattle.rules.proofs.Choice.{by-test}
 use Rattle.rules.proofs.Refusals.{passed, skipped}
-use Rattle.rules.proofs.Shape.{shaped}
 use Rattle.runs.specs.Machine.{Machine, machineOf, headerOf}
 use Rattle.runs.specs.Steps.{Step, stays, stepUnless}
 use Rattle.runs.specs.Tables.{Shows, Does}

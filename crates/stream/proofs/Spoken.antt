@@ -9,7 +9,6 @@ use Rattle.rules.specs.Words.{zeroRow}
 use Rattle.rules.specs.Values.{Kind, gives, ends, refuses, Values, Outcome}
 use Rattle.rules.specs.Refusals.{brokenStream}
 use Rattle.rules.specs.Access.{lookRowRule}
-use Rattle.rules.specs.declared.Key.{Key}
 use Rattle.rules.proofs.Rows.{look-row-length, remove-row-length}
 use Rattle.rules.proofs.Choice.{by-pick}
 use Rattle.history.specs.Calls.{ask, hop, insert, clear}
