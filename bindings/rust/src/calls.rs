@@ -1,6 +1,8 @@
 //! The calls of the archive, as methods of the tables that are lent to them, with every word of their answers: what
 //! [`HopSlotMap`](crate::HopSlotMap) is made of. It is the one module with unsafe code. Every method is sound for any lengths, words, header, key and
 //! cursor, whoever calls it. What a pointer has to be, [`Tables`] sees to; all else the archive is proved to test.
+mod archive;
+
 use core::{fmt, mem};
 
 use crate::{Header, Key, Row, ROW_WORDS};
@@ -42,93 +44,6 @@ pub struct Answer {
 
 // Seventeen words with no gap, as the header file asserts too.
 const _: () = assert!(mem::size_of::<Answer>() == (9 + ROW_WORDS) * mem::size_of::<u32>() && mem::align_of::<Answer>() == mem::align_of::<u32>());
-
-/// The functions of the archive, as the header file for C declares them.
-mod archive {
-    use super::Answer;
-
-    extern "C" {
-        pub fn hop_layout() -> u32;
-        pub fn hop_start(links: *mut u32, link_words: usize, rows: *mut u32, row_words: usize, used: u32, live: u32) -> Answer;
-        pub fn hop_room(links: *const u32, link_words: usize, rows: *const u32, row_words: usize, used: u32, live: u32) -> Answer;
-        pub fn hop_key_number(
-            links: *const u32,
-            link_words: usize,
-            rows: *const u32,
-            row_words: usize,
-            used: u32,
-            live: u32,
-            index: u32,
-            version: u32,
-        ) -> Answer;
-        pub fn hop_look(
-            links: *const u32,
-            link_words: usize,
-            rows: *const u32,
-            row_words: usize,
-            used: u32,
-            live: u32,
-            index: u32,
-            version: u32,
-        ) -> Answer;
-        pub fn hop_replace(
-            links: *const u32,
-            link_words: usize,
-            rows: *mut u32,
-            row_words: usize,
-            used: u32,
-            live: u32,
-            index: u32,
-            version: u32,
-            side: *const u32,
-            side_words: usize,
-        ) -> Answer;
-        pub fn hop_insert(
-            links: *mut u32,
-            link_words: usize,
-            rows: *mut u32,
-            row_words: usize,
-            used: u32,
-            live: u32,
-            side: *const u32,
-            side_words: usize,
-        ) -> Answer;
-        pub fn hop_remove(
-            links: *mut u32,
-            link_words: usize,
-            rows: *mut u32,
-            row_words: usize,
-            used: u32,
-            live: u32,
-            index: u32,
-            version: u32,
-        ) -> Answer;
-        pub fn hop_step(links: *const u32, link_words: usize, rows: *const u32, row_words: usize, used: u32, live: u32, cursor: u32) -> Answer;
-        pub fn hop_drain_step(links: *mut u32, link_words: usize, rows: *mut u32, row_words: usize, used: u32, live: u32) -> Answer;
-        pub fn hop_clear(links: *mut u32, link_words: usize, rows: *mut u32, row_words: usize, used: u32, live: u32) -> Answer;
-        pub fn hop_retain(
-            links: *mut u32,
-            link_words: usize,
-            rows: *mut u32,
-            row_words: usize,
-            used: u32,
-            live: u32,
-            keep: *const u8,
-            keep_bytes: usize,
-        ) -> Answer;
-        pub fn hop_rebuild(
-            links: *mut u32,
-            link_words: usize,
-            rows: *mut u32,
-            row_words: usize,
-            used: u32,
-            live: u32,
-            presence: *const u8,
-            presence_bytes: usize,
-        ) -> Answer;
-        pub fn hop_sound(links: *const u32, link_words: usize, rows: *const u32, row_words: usize, used: u32, live: u32) -> Answer;
-    }
-}
 
 /// The two tables of a map. What the header file asks of a caller holds for each pointer that goes from here to the archive:
 /// - it comes from a slice or an array, so that it is never null, is aligned and leads to as many words as the length beside it says;

@@ -148,67 +148,96 @@ fn case_o_the_most_slots() {
     assert_eq!(HopSlotMap::new(&mut links, &mut rows).err(), Some(Refusal::Shape));
 }
 
-/// Where map and book agree: which keys are live, with which rows, in which order; how many; how much room.
-fn agree(map: &HopSlotMap, slots: usize, book: &BTreeMap<Key, Row>, dead: &BTreeSet<Key>) {
-    let walked: Result<Vec<(Key, Row)>, Refusal> = map.iter().map(|shown| shown.map(|(key, row)| (key, *row))).collect();
-    assert_eq!(walked, Ok(book.iter().map(|(&key, &row)| (key, row)).collect()));
-    assert!(book.iter().all(|(&key, row)| map.get(key) == Some(row)));
-    assert!(dead.iter().all(|&key| map.check_key(key) == Err(Refusal::NotLive)));
-    assert_eq!((map.len(), map.is_empty(), map.room(), map.sound()), (book.len(), book.is_empty(), Ok(slots - book.len()), Ok(())));
+/// The slots of the long season.
+const SLOTS: usize = 12;
+
+/// What was taken in and what went out.
+#[derive(Default)]
+struct Book {
+    live: BTreeMap<Key, Row>,
+    dead: BTreeSet<Key>,
+    refused_full: usize,
+}
+
+impl Book {
+    fn all_gone(&mut self) {
+        self.dead.extend(std::mem::take(&mut self.live).into_keys());
+    }
+
+    fn insert(&mut self, map: &mut HopSlotMap, row: Row) {
+        match map.insert(row) {
+            Ok(key) => assert!(!self.dead.contains(&key) && self.live.insert(key, row).is_none()),
+            Err(refusal) => {
+                assert_eq!((refusal, self.live.len()), (Refusal::Full, SLOTS - 1));
+                self.refused_full += 1;
+            }
+        }
+    }
+
+    fn retain(&mut self, map: &mut HopSlotMap, round: u32) {
+        let gone: Vec<Key> = self.live.keys().copied().filter(|key| (key.index + round) % 3 == 0).collect();
+        assert_eq!(map.retain(|key, _| !gone.contains(&key)), Ok(gone.len()));
+        self.live.retain(|key, _| !gone.contains(key));
+        self.dead.extend(gone);
+    }
+
+    fn drain(&mut self, map: &mut HopSlotMap) {
+        let drained: BTreeMap<Key, Row> = map.drain().collect::<Result<_, _>>().unwrap();
+        assert_eq!(drained, self.live);
+        self.all_gone();
+    }
+
+    /// One call at random, with a row and perhaps a live key, and the answer as it is booked.
+    fn call(&mut self, map: &mut HopSlotMap, round: u32, random: &mut Words) {
+        let row = [random.below(1000); ROW_WORDS];
+        let one = self.live.keys().copied().nth(random.below(12) as usize);
+        match (random.below(40), one) {
+            (0, _) => {
+                map.clear().unwrap();
+                self.all_gone();
+            }
+            (1, _) => self.drain(map),
+            (2..=3, _) => self.retain(map, round),
+            (4..=16, Some(key)) => {
+                assert_eq!(map.remove(key).ok(), self.live.remove(&key));
+                self.dead.insert(key);
+            }
+            (17, Some(key)) => {
+                map.replace(key, row).unwrap();
+                self.live.insert(key, row);
+            }
+            (18, Some(key)) => {
+                map.get_mut(key).unwrap()[7] = 5;
+                self.live.get_mut(&key).unwrap()[7] = 5;
+            }
+            (19, _) => assert_eq!(map.drain_step(), Ok(self.live.pop_first().inspect(|&(key, _)| assert!(self.dead.insert(key))))),
+            _ => self.insert(map, row),
+        }
+    }
+
+    /// Where map and book agree: which keys are live, with which rows, in which order; how many; how much room.
+    fn agrees(&self, map: &HopSlotMap) {
+        let walked: Result<Vec<(Key, Row)>, Refusal> = map.iter().map(|shown| shown.map(|(key, row)| (key, *row))).collect();
+        assert_eq!(walked, Ok(self.live.iter().map(|(&key, &row)| (key, row)).collect()));
+        assert!(self.live.iter().all(|(&key, row)| map.get(key) == Some(row)));
+        assert!(self.dead.iter().all(|&key| map.check_key(key) == Err(Refusal::NotLive)));
+        let live = self.live.len();
+        assert_eq!((map.len(), map.is_empty(), map.room(), map.sound()), (live, live == 0, Ok(SLOTS - live), Ok(())));
+    }
 }
 
 #[test]
 fn a_long_season() {
-    const SLOTS: usize = 12;
     let mut random = Words::from_seed(1);
     let (mut links, mut rows) = tables(SLOTS);
     let mut header = HopSlotMap::new(&mut links, &mut rows).unwrap().header();
-    let (mut book, mut dead) = (BTreeMap::new(), BTreeSet::new());
-    let mut refused_full = 0;
+    let mut book = Book::default();
     for round in 0..4000 {
         // The tables are taken up anew each time, by the header alone.
         let mut map = HopSlotMap::with_header(&mut links, &mut rows, header).unwrap();
-        let row = [random.below(1000); ROW_WORDS];
-        let one = book.keys().copied().nth(random.below(12) as usize);
-        match (random.below(40), one) {
-            (0, _) => {
-                map.clear().unwrap();
-                dead.extend(std::mem::take(&mut book).into_keys());
-            }
-            (1, _) => {
-                let drained: BTreeMap<Key, Row> = map.drain().collect::<Result<_, _>>().unwrap();
-                assert_eq!(drained, book);
-                dead.extend(std::mem::take(&mut book).into_keys());
-            }
-            (2..=3, _) => {
-                let gone: Vec<Key> = book.keys().copied().filter(|key| (key.index + round) % 3 == 0).collect();
-                assert_eq!(map.retain(|key, _| !gone.contains(&key)), Ok(gone.len()));
-                book.retain(|key, _| !gone.contains(key));
-                dead.extend(gone);
-            }
-            (4..=16, Some(key)) => {
-                assert_eq!(map.remove(key).ok(), book.remove(&key));
-                dead.insert(key);
-            }
-            (17, Some(key)) => {
-                map.replace(key, row).unwrap();
-                book.insert(key, row);
-            }
-            (18, Some(key)) => {
-                map.get_mut(key).unwrap()[7] = 5;
-                book.get_mut(&key).unwrap()[7] = 5;
-            }
-            (19, _) => assert_eq!(map.drain_step(), Ok(book.pop_first().inspect(|&(key, _)| assert!(dead.insert(key))))),
-            _ => match map.insert(row) {
-                Ok(key) => assert!(!dead.contains(&key) && book.insert(key, row).is_none()),
-                Err(refusal) => {
-                    assert_eq!((refusal, book.len()), (Refusal::Full, SLOTS - 1));
-                    refused_full += 1;
-                }
-            },
-        }
-        agree(&map, SLOTS, &book, &dead);
+        book.call(&mut map, round, &mut random);
+        book.agrees(&map);
         header = map.header();
     }
-    assert!(refused_full > 10 && dead.len() > 1000, "{refused_full}, {}", dead.len());
+    assert!(book.refused_full > 10 && book.dead.len() > 1000, "{}, {}", book.refused_full, book.dead.len());
 }
