@@ -117,23 +117,7 @@ struct Form {
 }
 
 // What is neither done nor refused is told as the call's name asks.
-fn form_of(command: u32, kind: u32) -> Form {
-    if kind == flat::DONE {
-        return Form {
-            name: 0,
-            from: 0,
-            n: 0,
-            row: 0,
-        };
-    }
-    if kind == flat::REFUSED {
-        return Form {
-            name: 1,
-            from: 0,
-            n: 1,
-            row: 0,
-        };
-    }
+fn form_of_answer(command: u32) -> Form {
     match command {
         ROOM | RETAIN => Form {
             name: 2,
@@ -160,6 +144,27 @@ fn form_of(command: u32, kind: u32) -> Form {
             row: ROW_WORDS,
         },
     }
+}
+
+// Done and refusals are told alike for every call.
+fn form_of(command: u32, kind: u32) -> Form {
+    if kind == flat::DONE {
+        return Form {
+            name: 0,
+            from: 0,
+            n: 0,
+            row: 0,
+        };
+    }
+    if kind == flat::REFUSED {
+        return Form {
+            name: 1,
+            from: 0,
+            n: 1,
+            row: 0,
+        };
+    }
+    form_of_answer(command)
 }
 
 // The first n words of a row.
