@@ -1,2 +1,2 @@
--- What the proofs of commands share.
-mod Spoken
+-- What the proofs of commands share, and those of the crates over it.
+pub mod Spoken

@@ -9,7 +9,7 @@ use lib.ListN.{length}
 use lib.Dec.{eqb, ltb}
 use borrow.Author.Tests.{ltb-false, leb-false, eqb-false}
 use Rattle.rules.specs.Choice.{both}
-use Rattle.rules.proofs.Choice.{by-pick}
+use Rattle.rules.proofs.Choice.{by-pick, both-if}
 use Rattle.wire.specs.Replies.{longest, fits}
 use Rattle.commands.specs.Turns.{Run}
 use Rattle.commands.specs.declared.Phase.{Phase}
@@ -19,14 +19,10 @@ use Rattle.stream.proofs.Repeats.{stopped, kept}
 use Rattle.stream.proofs.Turns.{turn-length}
 use Rattle.course.proofs.FedTurns.{whole-fed, fed-to-end, unrefused}
 
--- of two tests that do not both hold, the first does not where the second does; and where the second does not hold, both do not
+-- of two tests that do not both hold, the first does not where the second does
 first-fails : (a b : Bool) → both a b ≡ false → b ≡ true → a ≡ false
 first-fails true b e h = sym h ∙ e
 first-fails false b e h = refl
-
-second-fails : (a b : Bool) → b ≡ false → both a b ≡ false
-second-fails true b e = e
-second-fails false b e = refl
 
 -- where nothing is to be done before the end, no byte is left and no walk is under way
 nothing-left : (n taken : ℕ) (p : Phase) → taken ≤ n → waitsIn p (ltb taken n) ≡ false → p ≢ Phase.Ended →
@@ -74,7 +70,7 @@ module _ (s : Run) (input out : List ℕ) where
       (p .taken ≡ 0) × (p .written ≡ 0) × (p .run ≡ s) × (p .out ≡ out)
   unfolding feedRule fedWhole going waits
   ended-feed e =
-      let still = second-fails (fits (length out) 0) _ (ap (λ (p : Phase). waitsIn p (ltb 0 (length input))) e) in
+      let still = both-if (fits (length out) 0) _ (λ _. ap (λ (p : Phase). waitsIn p (ltb 0 (length input))) e) in
       let none = stopped (going (length input)) (fedOnce input) (length input + length out) (begun s out) still in
       by-pick (λ (p : Piece). (p .taken ≡ 0) × (p .written ≡ 0) × (p .run ≡ s) × (p .out ≡ out))
       (eqb (feedNumber (s .links) (s .rows) (s .stream) (length out)) 0) _ _

@@ -22,7 +22,7 @@ use Rattle.runs.specs.Steps.{keyNumberOn, lookOn, written, replaceOn}
 use Rattle.runs.specs.WholeTable.{roomOn}
 use Rattle.runs.specs.Tables.{Shows, Does}
 use Rattle.runs.proofs.Rows.{row-below, row-put, length-row}
-use Rattle.runs.proofs.Shown.{entry-passes, side-alone, still-shaped, unless-does}
+use Rattle.runs.proofs.Shown.{entry-passes, side-alone, rows-fit, still-shaped, unless-does}
 use Rattle.runs.proofs.Removed.{key-live, key-number-is}
 use Rattle.runs.proofs.Drained.{live-is}
 
@@ -55,7 +55,7 @@ module _ (l r : List ℕ) (hd : Header) (m : Machine) (s : Shows l r hd m) where
   written-shows i side h e =
       let f = shaped l r hd (s .shaped) in
       let u : hd .used ≡ m .used = ap (λ (x : Machine). x .used) (s .same) in
-      let rows = row-put r i side (hd .used) (row-below r (hd .used) i (omega (arith, f .within, f .lent .row-words)) (omega arith)) (eq-eqb _ _ e) in
+      let rows = row-put r i side (hd .used) (row-below r (hd .used) i (rows-fit l r hd (s .shaped)) (omega arith)) (eq-eqb _ _ e) in
       record {
         shaped = still-shaped l r l (setRow r i side) hd hd (s .shaped) refl (length-row r i side) (f .some) (f .within) (f .few);
         sound = s .sound;

@@ -29,7 +29,7 @@ use Rattle.runs.proofs.Rows.{row-below, row-put, row-new, length-row}
 use Rattle.runs.proofs.Counts.{odd-change, odd-more, odd-same}
 use Rattle.runs.proofs.Followed.{insert-h, insert-b, insert-before, insert-n, insert-n-not-h, insert-room}
 use Rattle.runs.proofs.Sound.{LinkedTable, linked}
-use Rattle.runs.proofs.Shown.{side-alone, still-shaped, shows, unless-does}
+use Rattle.runs.proofs.Shown.{side-alone, links-fit, rows-fit, still-shaped, shows, unless-does}
 use Rattle.runs.proofs.InsertWords.{place-is, grown-linked, filled-linked, shortened-versions, shortened-length}
 use Rattle.runs.proofs.Removed.{not-astray}
 
@@ -154,7 +154,7 @@ module _ (l r : List ℕ) (hd : Header) (shape : shapeNumber l r hd ≡ 0) (afte
     r′ = setRow r b side
 
     fits : hd .used * linkWords ≤ length l
-    fits = let s = shaped l r hd shape in omega (arith, s .within, s .lent .link-words)
+    fits = links-fit l r hd shape
 
     back-is : (b < hd .used) × (versionAt l (hd .used) b % 2 ≡ 0)
     back-is = insert-b _ _ _ _ (hd .used) after L .0
@@ -165,9 +165,7 @@ module _ (l r : List ℕ) (hd : Header) (shape : shapeNumber l r hd ≡ 0) (afte
         ∙ ap (λ (f : ℕ → ℕ). put f b w) (shortened-versions l (hd .used) (insertLinks l (hd .used)))
 
     filled-rows : rowAt r′ (hd .used) ≡ put (rowAt r (hd .used)) b side
-    filled-rows =
-        let s = shaped l r hd shape in
-        row-put r b side (hd .used) (row-below r (hd .used) b (omega (arith, s .within, s .lent .row-words)) (back-is .0)) (eq-eqb (length side) rowWords whole)
+    filled-rows = row-put r b side (hd .used) (row-below r (hd .used) b (rows-fit l r hd shape) (back-is .0)) (eq-eqb (length side) rowWords whole)
 
     filled-length : length l′ ≡ length l
     filled-length = length-link l₁ b 0 w ∙ shortened-length l (insertLinks l (hd .used))

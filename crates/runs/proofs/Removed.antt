@@ -33,7 +33,7 @@ use Rattle.runs.proofs.Counts.{rise-even, odd-change, odd-some}
 use Rattle.runs.proofs.Followed.{IsVacant, remove-t, remove-right-links, remove-left-link}
 use Rattle.runs.proofs.RemoveWords.{near, near-is, freed-linked, freed-versions, freed-length}
 use Rattle.runs.proofs.Sound.{LinkedTable, linked}
-use Rattle.runs.proofs.Shown.{entry-passes, still-shaped, shows, unless-does}
+use Rattle.runs.proofs.Shown.{entry-passes, links-fit, rows-fit, still-shaped, shows, unless-does}
 
 -- a link to a vacant slot in use does not go astray
 pub not-astray : (l : List ℕ) (u k : ℕ) → k < u → versionAt l u k % 2 ≡ 0 → astray l u k ≡ false
@@ -94,10 +94,10 @@ module _ (l : List ℕ) (hd : Header) (after : List ℕ) (L : LinkedTable l (hd 
 module _ (l r : List ℕ) (hd : Header) (shape : shapeNumber l r hd ≡ 0) (after : List ℕ) (L : LinkedTable l (hd .used) after)
     (counted : hd .live ≡ oddCount (versionAt l (hd .used)) (hd .used)) where
   fits : hd .used * linkWords ≤ length l
-  fits = let s = shaped l r hd shape in omega (arith, s .within, s .lent .link-words)
+  fits = links-fit l r hd shape
 
   row-fits : hd .used * rowWords ≤ length r
-  row-fits = let s = shaped l r hd shape in omega (arith, s .within, s .lent .row-words)
+  row-fits = rows-fit l r hd shape
 
   module _ (j : ℕ) (low : suc j < hd .used) (odd : versionAt l (hd .used) (suc j) % 2 ≡ 1) where
     abbrev i : ℕ

@@ -1,20 +1,21 @@
--- A table that is a machine: what its entry tests answer, and how a call that is refused or goes through is a step. Assumes nothing.
+-- A table that is a machine: what its entry tests answer, that its slots in use lie within it, and how a call that is refused or goes through is a step. Assumes nothing.
 use mathlib.Core.Path.{_≡_, refl, sym, ap, _∙_, subst}
 use mathlib.Core.List.{List}
 use mathlib.Core.Bool.{Bool, false}
-use Prim.Native.Nat.{ℕ, _-_, _/_, _≤_, _<_, _%_}
+use Prim.Native.Nat.{ℕ, _-_, _*_, _/_, _≤_, _<_, _%_}
 use native.Mathlib.Omega.{arith}
 use lib.ListN.{length}
 use lib.Dec.{eqb}
 use borrow.Author.Tests.{ne-eqb, le-ltb, eqb-true}
 use Rattle.rules.specs.Choice.{pick}
-use Rattle.rules.specs.Words.{lentOf, linkWords, versionAt, isOdd}
+use Rattle.rules.specs.Words.{lentOf, linkWords, rowWords, versionAt, isOdd}
 use Rattle.rules.specs.Values.{Outcome, refused, refusal, unless}
 use Rattle.rules.specs.Refusals.{passes, damaged, lentNumber, headerNumber, shapeNumber, sideNumber, zeroNumber, entryNumber, sideEntryNumber}
 use Rattle.rules.specs.Runs.{oddCount}
 use Rattle.rules.specs.declared.Header.{Header}
 use Rattle.rules.proofs.Choice.{by-test}
 use Rattle.rules.proofs.Refusals.{passed, skipped}
+use Rattle.rules.proofs.Shape.{shaped}
 use Rattle.runs.specs.Machine.{Machine, machineOf, headerOf}
 use Rattle.runs.specs.Steps.{Step, stays, stepUnless}
 use Rattle.runs.specs.Tables.{Shows, Does}
@@ -33,6 +34,14 @@ module _ (l r : List ℕ) (hd : Header) (shape : shapeNumber l r hd ≡ 0) (even
   side-alone side asked =
       skipped (sideNumber (shapeNumber l r hd) side asked) (isOdd (versionAt l (hd .used) 0)) damaged not-odd
       ∙ ap (λ (n : ℕ). sideNumber n side asked) shape
+
+-- the slots in use lie within both tables
+module _ (l r : List ℕ) (hd : Header) (shape : shapeNumber l r hd ≡ 0) where
+  pub links-fit : hd .used * linkWords ≤ length l
+  links-fit = let s = shaped l r hd shape in omega (arith, s .within, s .lent .link-words)
+
+  pub rows-fit : hd .used * rowWords ≤ length r
+  rows-fit = let s = shaped l r hd shape in omega (arith, s .within, s .lent .row-words)
 
 -- tables that may be lent, under any header that fits them; and tables of the same lengths
 pub fits-shape : (l r : List ℕ) (hd : Header) → lentNumber (length l) (length r) ≡ 0 → 1 ≤ hd .used → hd .used ≤ lentOf l → hd .live < hd .used →

@@ -1,4 +1,4 @@
--- `scan::next_slot` meets its contract. Assumes nothing.
+-- `strike::next_slot` meets its contract. Assumes nothing.
 use Rattle.runs.specs.Scans.{nextSlot}
 use borrow.Author.Needs.{needs}
 use Rattle.strike.proofs.next_slot.Statement.{statement}

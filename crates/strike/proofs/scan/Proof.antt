@@ -1,4 +1,4 @@
--- `scan::scan` meets its contract. The loop's invariant: what has been done so far is what the steps so far do. Assumes nothing.
+-- `strike::scan` meets its contract. The loop's invariant: what has been done so far is what the steps so far do. Assumes nothing.
 use Rattle.rules.specs.Values.{Outcome, plain, counted}
 use Rattle.rules.specs.Retain.{struckBy}
 use Rattle.rules.specs.declared.Header.{Header}

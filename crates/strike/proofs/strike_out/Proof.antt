@@ -1,4 +1,4 @@
--- `scan::strike_out` meets its contract. Assumes nothing.
+-- `strike::strike_out` meets its contract. Assumes nothing.
 use Rattle.runs.specs.Scans.{strikeOut}
 use borrow.Author.Tests.{eq-eqb, ne-eqb}
 use borrow.Author.Needs.{needs}

@@ -1,4 +1,4 @@
--- `access::look_row` meets its contract. Assumes nothing.
+-- `access::showing::look_row` meets its contract. Assumes nothing.
 use mathlib.Core.Path.{refl}
 use borrow.Author.Needs.{needs}
 use Rattle.rules.specs.Access.{lookRowRule}

@@ -1,4 +1,4 @@
--- `commands::say_cleared` meets its contract. Assumes nothing.
+-- `commands::saying::say_cleared` meets its contract. Assumes nothing.
 use mathlib.Core.Path.{refl}
 use borrow.Author.Needs.{needs}
 use Rattle.commands.proofs.saying.say_cleared.Statement.{statement}

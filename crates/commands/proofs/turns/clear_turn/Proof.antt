@@ -1,4 +1,4 @@
--- `commands::clear_turn` meets its contract. Assumes nothing.
+-- `commands::turns::clear_turn` meets its contract. Assumes nothing.
 use Rattle.commands.proofs.Spoken.{turn-by}
 use Rattle.commands.specs.Turns.{sayKey}
 use borrow.Author.Needs.{needs}

@@ -1,8 +1,5 @@
--- `commands::command_turn` meets its contract. Assumes nothing.
-use Rattle.commands.specs.Turns.{turned}
-use Rattle.commands.specs.declared.Turn.{Turn}
-use denote.Ref.{now}
-use mathlib.Core.Path.{ap}
+-- `commands::turns::command_turn` meets its contract. Assumes nothing.
+use Rattle.commands.proofs.Spoken.{turned-by}
 use borrow.Author.Needs.{needs}
 use Rattle.commands.proofs.turns.command_turn.Statement.{statement}
 use Rattle.commands.proofs.turns.command_turn.Tie as tie
@@ -80,14 +77,10 @@ returns-4 : tie.Need-returns-4
 returns-4 c = rw (c .before .before .before .before .before .before .before .enum-told4 .given .1) (c .before .before .before .before .clear-turn .ensures)
 
 returns-5 : tie.Need-returns-5
-returns-5 c =
-    let a = c .before .before .before .before .before .args in
-    rw (c .before .enum-told5 .given .1) (ap (λ (x : Turn). turned x (now (a .links)) (now (a .rows))) (c .calm .ensures))
+returns-5 c = rw (c .before .enum-told5 .given .1) (turned-by (c .calm .ensures))
 
 returns-6 : tie.Need-returns-6
-returns-6 c =
-    let a = c .before .before .before .before .before .args in
-    rw (c .before .enum-told6 .given .1) (ap (λ (x : Turn). turned x (now (a .links)) (now (a .rows))) (c .calm2 .ensures))
+returns-6 c = rw (c .before .enum-told6 .given .1) (turned-by (c .calm2 .ensures))
 
 pub command-turn-spec : {M : Type 1} → statement M
 command-turn-spec =

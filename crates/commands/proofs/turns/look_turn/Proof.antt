@@ -1,4 +1,4 @@
--- `commands::look_turn` meets its contract. Assumes nothing.
+-- `commands::turns::look_turn` meets its contract. Assumes nothing.
 use borrow.Author.Needs.{needs}
 use Rattle.commands.proofs.turns.look_turn.Statement.{statement}
 use Rattle.commands.proofs.turns.look_turn.Tie as tie

@@ -1,4 +1,4 @@
--- `commands::remove_turn` meets its contract. Assumes nothing.
+-- `commands::turns::remove_turn` meets its contract. Assumes nothing.
 use Rattle.commands.proofs.Spoken.{turn-by}
 use Rattle.commands.specs.Turns.{sayRow}
 use borrow.Author.Needs.{needs}

@@ -1,4 +1,4 @@
--- `commands::show_turn` meets its contract. Assumes nothing.
+-- `commands::turns::show_turn` meets its contract. Assumes nothing.
 use Rattle.commands.proofs.Spoken.{turn-by}
 use Rattle.commands.specs.Turns.{sayRow}
 use borrow.Author.Needs.{needs}

@@ -1,9 +1,8 @@
--- `commands::walk_turn` meets its contract. Assumes nothing.
-use Rattle.commands.proofs.Spoken.{walk-by}
-use Rattle.commands.specs.Turns.{runOf, turned}
-use Rattle.commands.specs.declared.Turn.{Turn}
+-- `commands::turns::walk_turn` meets its contract. Assumes nothing.
+use Rattle.commands.proofs.Spoken.{walk-by, turned-by}
+use Rattle.commands.specs.Turns.{runOf}
 use denote.Ref.{now}
-use mathlib.Core.Path.{ap, _∙_}
+use mathlib.Core.Path.{_∙_}
 use borrow.Author.Needs.{needs}
 use Rattle.commands.proofs.turns.walk_turn.Statement.{statement}
 use Rattle.commands.proofs.turns.walk_turn.Tie as tie
@@ -37,12 +36,12 @@ returns c =
 returns-2 : tie.Need-returns-2
 returns-2 c =
     let a = c .before .before .before .before .before .before .args in
-    ap (λ (x : Turn). turned x (now (a .links)) (now (a .rows))) (c .calm .ensures) ∙ rw (c .before .enum-told .given .1) at (walk-by (runOf (now (a .links)) (now (a .rows)) (a .s)) _ _ (c .before .before .before .hop-step .ensures))
+    turned-by (c .calm .ensures) ∙ rw (c .before .enum-told .given .1) at (walk-by (runOf (now (a .links)) (now (a .rows)) (a .s)) _ _ (c .before .before .before .hop-step .ensures))
 
 returns-3 : tie.Need-returns-3
 returns-3 c =
     let a = c .before .before .before .before .before .before .before .args in
-    ap (λ (x : Turn). turned x (now (a .links)) (now (a .rows))) (c .calm2 .ensures) ∙ rw (c .before .before .answer2 .given .1) at (walk-by (runOf (now (a .links)) (now (a .rows)) (a .s)) _ _ (c .before .before .before .before .hop-step .ensures))
+    turned-by (c .calm2 .ensures) ∙ rw (c .before .before .answer2 .given .1) at (walk-by (runOf (now (a .links)) (now (a .rows)) (a .s)) _ _ (c .before .before .before .before .hop-step .ensures))
 
 pub walk-turn-spec : {M : Type 1} → statement M
 walk-turn-spec =

@@ -1,4 +1,4 @@
--- `insert::numbers::insert_links` meets its contract. Assumes nothing.
+-- `followed::inserting::insert_links` meets its contract. Assumes nothing.
 use borrow.Author.Needs.{needs}
 use Rattle.followed.proofs.inserting.insert_links.Statement.{statement}
 use Rattle.followed.proofs.inserting.insert_links.Tie as tie

@@ -1,4 +1,4 @@
--- `insert::numbers::insert_number` meets its contract. Assumes nothing.
+-- `followed::inserting::insert_number` meets its contract. Assumes nothing.
 use Rattle.rules.specs.Insert.{insertNumber}
 use borrow.Author.Needs.{needs}
 use Rattle.followed.proofs.inserting.insert_number.Statement.{statement}

@@ -1,4 +1,4 @@
--- `insert::numbers::run_number` meets its contract. Assumes nothing.
+-- `followed::inserting::run_number` meets its contract. Assumes nothing.
 use Rattle.rules.specs.Insert.{runNumber}
 use borrow.Author.Needs.{needs}
 use Rattle.followed.proofs.inserting.run_number.Statement.{statement}

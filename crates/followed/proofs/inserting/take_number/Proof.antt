@@ -1,4 +1,4 @@
--- `insert::numbers::take_number` meets its contract. Assumes nothing.
+-- `followed::inserting::take_number` meets its contract. Assumes nothing.
 use Rattle.rules.specs.Insert.{takeNumber}
 use borrow.Author.Needs.{needs}
 use Rattle.followed.proofs.inserting.take_number.Statement.{statement}

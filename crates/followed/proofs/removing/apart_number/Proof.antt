@@ -1,4 +1,4 @@
--- `remove::numbers::apart_number` meets its contract. Assumes nothing.
+-- `followed::removing::apart_number` meets its contract. Assumes nothing.
 use Rattle.rules.specs.Remove.{apartNumber}
 use borrow.Author.Needs.{needs}
 use Rattle.followed.proofs.removing.apart_number.Statement.{statement}

@@ -1,4 +1,4 @@
--- `remove::numbers::left_number` meets its contract. Assumes nothing.
+-- `followed::removing::left_number` meets its contract. Assumes nothing.
 use Rattle.rules.specs.Remove.{leftNumber}
 use borrow.Author.Needs.{needs}
 use Rattle.followed.proofs.removing.left_number.Statement.{statement}

@@ -1,4 +1,4 @@
--- `remove::numbers::remove_number` meets its contract. Assumes nothing.
+-- `followed::removing::remove_number` meets its contract. Assumes nothing.
 use Rattle.rules.specs.Remove.{removeNumber}
 use borrow.Author.Needs.{needs}
 use Rattle.followed.proofs.removing.remove_number.Statement.{statement}

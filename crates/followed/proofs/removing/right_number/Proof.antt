@@ -1,4 +1,4 @@
--- `remove::numbers::right_number` meets its contract. Assumes nothing.
+-- `followed::removing::right_number` meets its contract. Assumes nothing.
 use Rattle.rules.specs.Remove.{rightNumber}
 use borrow.Author.Needs.{needs}
 use Rattle.followed.proofs.removing.right_number.Statement.{statement}

@@ -1,10 +1,8 @@
--- `hearing::body_heard` meets its contract. Assumes nothing.
+-- `hearing::hearing::body_heard` meets its contract. Assumes nothing.
 use Rattle.hearing.proofs.Phases.{gathering, whole-body}
-use Rattle.commands.specs.Turns.{turned}
-use Rattle.commands.specs.declared.Turn.{Turn}
+use Rattle.commands.proofs.Spoken.{turned-by}
 use native.Mathlib.Omega.{arith}
-use denote.Ref.{now}
-use mathlib.Core.Path.{ap, _∙_}
+use mathlib.Core.Path.{_∙_}
 use Prim.Native.Nat.{_+_}
 use borrow.Author.Needs.{needs}
 use Rattle.hearing.proofs.hearing.body_heard.Statement.{statement}
@@ -28,7 +26,7 @@ calm-requires c κs = search needs
 returns : tie.Need-returns
 returns c =
     let a = c .before .before .before .before .before .before .before .before .before .args in
-    ap (λ (x : Turn). turned x (now (a .links)) (now (a .rows))) (rw (c .before .before .before .before .with-byte .ensures) at (c .calm .ensures))
+    turned-by (rw (c .before .before .before .before .with-byte .ensures) at (c .calm .ensures))
     ∙ gathering (a .command) _ _ (omega (arith, c .before .if1 .taken, c .before .before .one-below .ensures, c .before .before .before .body-length .ensures))
 
 command-turn-requires : tie.Need-command-turn-requires

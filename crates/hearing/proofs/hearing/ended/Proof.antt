@@ -1,4 +1,4 @@
--- `hearing::ended` meets its contract. Assumes nothing.
+-- `hearing::hearing::ended` meets its contract. Assumes nothing.
 use borrow.Author.Needs.{needs}
 use Rattle.hearing.proofs.hearing.ended.Statement.{statement}
 use Rattle.hearing.proofs.hearing.ended.Tie as tie

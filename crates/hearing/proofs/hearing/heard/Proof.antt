@@ -1,9 +1,9 @@
--- `hearing::heard` meets its contract. Assumes nothing.
+-- `hearing::hearing::heard` meets its contract. Assumes nothing.
 use Rattle.hearing.proofs.Phases.{heard-by}
-use Rattle.commands.specs.Turns.{runOf, turned}
-use Rattle.commands.specs.declared.Turn.{Turn}
+use Rattle.commands.proofs.Spoken.{turned-by}
+use Rattle.commands.specs.Turns.{runOf}
 use denote.Ref.{now}
-use mathlib.Core.Path.{ap, _∙_}
+use mathlib.Core.Path.{_∙_}
 use borrow.Author.Needs.{needs}
 use Rattle.hearing.proofs.hearing.heard.Statement.{statement}
 use Rattle.hearing.proofs.hearing.heard.Tie as tie
@@ -53,12 +53,12 @@ returns-2 c = c .before .before .before .before .body-heard .ensures ∙ heard-b
 returns-3 : tie.Need-returns-3
 returns-3 c =
     let a = c .before .before .before .before .before .before .args in
-    ap (λ (x : Turn). turned x (now (a .links)) (now (a .rows))) (c .calm .ensures) ∙ heard-by (runOf (now (a .links)) (now (a .rows)) (a .s)) _ _ (c .before .before .phase2 .given .1)
+    turned-by (c .calm .ensures) ∙ heard-by (runOf (now (a .links)) (now (a .rows)) (a .s)) _ _ (c .before .before .phase2 .given .1)
 
 returns-4 : tie.Need-returns-4
 returns-4 c =
     let a = c .before .before .before .before .before .args in
-    ap (λ (x : Turn). turned x (now (a .links)) (now (a .rows))) (c .calm2 .ensures) ∙ heard-by (runOf (now (a .links)) (now (a .rows)) (a .s)) _ _ (c .before .enum-told2 .given .1)
+    turned-by (c .calm2 .ensures) ∙ heard-by (runOf (now (a .links)) (now (a .rows)) (a .s)) _ _ (c .before .enum-told2 .given .1)
 
 pub heard-spec : {M : Type 1} → statement M
 heard-spec =

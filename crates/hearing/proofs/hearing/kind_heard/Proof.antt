@@ -1,8 +1,8 @@
--- `hearing::kind_heard` meets its contract. Assumes nothing.
+-- `hearing::hearing::kind_heard` meets its contract. Assumes nothing.
 use Rattle.hearing.proofs.Phases.{gathering, whole-body}
 use Rattle.hearing.specs.Heard.{gathered}
-use Rattle.commands.specs.Turns.{Run, runOf, turned}
-use Rattle.commands.specs.declared.Turn.{Turn}
+use Rattle.commands.proofs.Spoken.{turned-by}
+use Rattle.commands.specs.Turns.{Run, runOf}
 use Rattle.wire.specs.declared.Command.{Command}
 use denote.Ref.{now}
 use mathlib.Core.Path.{ap, _∙_}
@@ -23,7 +23,7 @@ returns : tie.Need-returns
 returns c =
     let a = c .before .before .before .before .before .before .args in
     let s : Run = runOf (now (a .links)) (now (a .rows)) (a .s) in
-    ap (λ (x : Turn). turned x (now (a .links)) (now (a .rows))) (c .calm .ensures)
+    turned-by (c .calm .ensures)
     ∙ gathering (c .before .before .before .command-of .result) 0 s (rw (c .before .before .body-length .ensures) at (c .before .if1 .taken))
     ∙ ap (λ (k : Command). gathered k 0 s) (c .before .before .before .command-of .ensures)
 

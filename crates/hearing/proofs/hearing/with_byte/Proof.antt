@@ -1,4 +1,4 @@
--- `hearing::with_byte` meets its contract. Assumes nothing.
+-- `hearing::hearing::with_byte` meets its contract. Assumes nothing.
 use native.Mathlib.Omega.{arith}
 use mathlib.Core.Path.{sym}
 use lib.Seq.{set-out}

@@ -1,4 +1,4 @@
--- `hearing::possible` meets its contract. Assumes nothing.
+-- `hearing::states::possible` meets its contract. Assumes nothing.
 use Rattle.hearing.specs.Heard.{possible}
 use mathlib.Core.Path.{refl}
 use borrow.Author.Needs.{needs}

@@ -1,4 +1,4 @@
--- `hearing::walk_possible` meets its contract. Assumes nothing.
+-- `hearing::states::walk_possible` meets its contract. Assumes nothing.
 use mathlib.Core.Path.{refl}
 use borrow.Author.Tests.{le-leb, lt-leb}
 use Rattle.hearing.proofs.states.walk_possible.Statement.{statement}

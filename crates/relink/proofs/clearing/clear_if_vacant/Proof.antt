@@ -1,4 +1,4 @@
--- `rebuild::clearing::clear_if_vacant` meets its contract. Assumes nothing.
+-- `relink::clearing::clear_if_vacant` meets its contract. Assumes nothing.
 use mathlib.Core.Path.{sym, _∙_}
 use borrow.Author.Needs.{needs}
 use Rattle.relink.proofs.clearing.clear_if_vacant.Statement.{statement}

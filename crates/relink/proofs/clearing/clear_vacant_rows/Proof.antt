@@ -1,4 +1,4 @@
--- `rebuild::clearing::clear_vacant_rows` meets its contract. Assumes nothing.
+-- `relink::clearing::clear_vacant_rows` meets its contract. Assumes nothing.
 use Rattle.rules.specs.Rebuild.{clearedRows}
 use mathlib.Core.Path.{_≡_, refl}
 use Prim.Native.Nat.{_-_, _≤_}

@@ -1,4 +1,4 @@
--- `rebuild::relinking::chain_run` meets its contract. Assumes nothing.
+-- `relink::relinking::chain_run` meets its contract. Assumes nothing.
 use Rattle.rules.specs.Rebuild.{chainRun}
 use borrow.Author.Needs.{needs}
 use Rattle.relink.proofs.relinking.chain_run.Statement.{statement}

@@ -1,4 +1,4 @@
--- `rebuild::relinking::chain_slot` meets its contract. Assumes nothing.
+-- `relink::relinking::chain_slot` meets its contract. Assumes nothing.
 use Rattle.rules.specs.Choice.{pick}
 use Rattle.rules.specs.Words.{versionAt}
 use Rattle.rules.specs.Runs.{isFront}

@@ -1,4 +1,4 @@
--- `rebuild::relinking::chain_slots` meets its contract. Assumes nothing.
+-- `relink::relinking::chain_slots` meets its contract. Assumes nothing.
 use Rattle.rules.specs.Rebuild.{chainSlots, closed}
 use mathlib.Core.Path.{_≡_, refl, ap, _∙_}
 use Prim.Native.Nat.{_-_, _≤_}

@@ -1,4 +1,4 @@
--- `rebuild::relinking::relink` meets its contract. Assumes nothing.
+-- `relink::relinking::relink` meets its contract. Assumes nothing.
 use Rattle.rules.specs.Rebuild.{relinked}
 use borrow.Author.Needs.{needs}
 use Rattle.relink.proofs.relinking.relink.Statement.{statement}

@@ -1,4 +1,4 @@
--- `rebuild::relinking::unlink` meets its contract. Assumes nothing.
+-- `relink::relinking::unlink` meets its contract. Assumes nothing.
 use Rattle.rules.specs.Rebuild.{unlinked}
 use mathlib.Core.Path.{_≡_, refl}
 use Prim.Native.Nat.{_-_, _≤_}

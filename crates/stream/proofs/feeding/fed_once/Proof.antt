@@ -1,4 +1,4 @@
--- `stream::fed_once` meets its contract. Assumes nothing.
+-- `stream::feeding::fed_once` meets its contract. Assumes nothing.
 use Rattle.stream.proofs.Phases.{walked-by, heard-once-by, byte-waits, spoken-is}
 use Rattle.stream.specs.Feeding.{Feeding, feeding}
 use borrow.Author.Tests.{ltb-true}

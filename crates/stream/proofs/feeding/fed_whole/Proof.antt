@@ -1,4 +1,4 @@
--- `stream::fed_whole` meets its contract. Assumes nothing.
+-- `stream::feeding::fed_whole` meets its contract. Assumes nothing.
 use Rattle.wire.specs.Replies.{fits}
 use Prim.Native.Nat.{_<_}
 use mathlib.Core.Path.{ap, subst}

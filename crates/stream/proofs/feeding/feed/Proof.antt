@@ -1,4 +1,4 @@
--- `stream::feed` meets its contract. Assumes nothing.
+-- `stream::feeding::feed` meets its contract. Assumes nothing.
 use Rattle.stream.proofs.Numbered.{turned-down, taken-in}
 use Rattle.stream.specs.Feeding.{waits, piece, feedRule}
 use mathlib.Core.Path.{ap}

@@ -1,9 +1,9 @@
--- `stream::finish` meets its contract. Assumes nothing.
+-- `stream::feeding::finish` meets its contract. Assumes nothing.
 use Rattle.stream.proofs.Phases.{spoken-is}
 use Rattle.stream.proofs.Numbered.{turned-down, taken-in}
 use Rattle.stream.specs.Feeding.{waits, piece, finishRule}
-use Rattle.commands.specs.Turns.{Run, runOf, turned}
-use Rattle.commands.specs.declared.Turn.{Turn}
+use Rattle.commands.proofs.Spoken.{turned-by}
+use Rattle.commands.specs.Turns.{Run, runOf}
 use mathlib.Core.Path.{ap}
 use denote.Ref.{now}
 use borrow.Author.Needs.{needs}
@@ -39,7 +39,7 @@ unfolding finishRule waits
 returns-2 c =
     let a = c .before .before .before .before .before .before .before .before .before .before .before .args in
     let s : Run = runOf (now (a .links)) (now (a .rows)) (a .s) in
-    let ends = ap (λ (x : Turn). turned x (s .links) (s .rows)) (c .before .before .before .before .before .ended .ensures) in
+    let ends = turned-by (c .before .before .before .before .before .ended .ensures) in
     taken-in s (now (a .out)) _ _ _ (c .before .before .before .before .before .before .before .feed-number .ensures) (c .before .before .before .before .before .before .if1 .left) _
     (rw (c .piece .ensures) (ap (piece 0) (spoken-is _ _ _ _ _ _ _ _ _ (c .before .before .before .spoken .ensures .0) (c .before .before .before .spoken .ensures .1) ends)))
 

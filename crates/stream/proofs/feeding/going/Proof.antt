@@ -1,4 +1,4 @@
--- `stream::going` meets its contract. Assumes nothing.
+-- `stream::feeding::going` meets its contract. Assumes nothing.
 use borrow.Author.Tests.{not-true, not-false}
 use mathlib.Core.Path.{refl, sym}
 use borrow.Author.Needs.{needs}

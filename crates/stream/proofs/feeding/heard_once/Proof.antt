@@ -1,4 +1,4 @@
--- `stream::heard_once` meets its contract. Assumes nothing.
+-- `stream::feeding::heard_once` meets its contract. Assumes nothing.
 use Rattle.stream.proofs.Phases.{spoken-is}
 use borrow.Author.Needs.{needs}
 use Rattle.stream.proofs.feeding.heard_once.Statement.{statement}

@@ -1,4 +1,4 @@
--- `stream::piece` meets its contract. Assumes nothing.
+-- `stream::feeding::piece` meets its contract. Assumes nothing.
 use mathlib.Core.Path.{refl}
 use borrow.Author.Needs.{needs}
 use Rattle.stream.proofs.feeding.piece.Statement.{statement}

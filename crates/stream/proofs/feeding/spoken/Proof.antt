@@ -1,4 +1,4 @@
--- `stream::spoken` meets its contract. Assumes nothing.
+-- `stream::feeding::spoken` meets its contract. Assumes nothing.
 use mathlib.Core.Path.{refl}
 use borrow.Author.Needs.{needs}
 use Rattle.stream.proofs.feeding.spoken.Statement.{statement}

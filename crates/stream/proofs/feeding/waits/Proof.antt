@@ -1,4 +1,4 @@
--- `stream::waits` meets its contract. Assumes nothing.
+-- `stream::feeding::waits` meets its contract. Assumes nothing.
 use mathlib.Core.Path.{refl}
 use borrow.Author.Needs.{needs}
 use Rattle.stream.proofs.feeding.waits.Statement.{statement}

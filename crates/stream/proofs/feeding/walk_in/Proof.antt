@@ -1,4 +1,4 @@
--- `stream::walk_in` meets its contract. Assumes nothing.
+-- `stream::feeding::walk_in` meets its contract. Assumes nothing.
 use mathlib.Core.Path.{refl}
 use borrow.Author.Needs.{needs}
 use Rattle.stream.proofs.feeding.walk_in.Statement.{statement}

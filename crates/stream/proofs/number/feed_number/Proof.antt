@@ -1,4 +1,4 @@
--- `stream::feed_number` meets its contract. Assumes nothing.
+-- `stream::number::feed_number` meets its contract. Assumes nothing.
 use mathlib.Core.Path.{refl}
 use Rattle.stream.specs.Feeding.{feedNumber}
 use borrow.Author.Needs.{needs}
