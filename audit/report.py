@@ -39,26 +39,34 @@ def show(rows):
             print("|---" * len(row) + "|")
 
 
-def tell(root, sources, calls, results, partial, seconds):
-    """The table, the survivors and the totals; 0 where nothing survives that is not explained, and every call has its six."""
-    tried = [(mutant, result) for mutant, result in results if result in KINDS]
-    rows = table(sources, calls, tried, partial)
-    show(rows)
-    faults, explained = 0, known(root)
+def survivors(sources, results, explained):
+    """Prints what survives, and what is called known and does not; how many of these are faults."""
+    faults = 0
     for mutant, result in results:
         line = mutant.changed_line(sources.texts[mutant.path])
         why = explained.get((mutant.label, line))
-        if result == prover.UNDECIDED or (result == prover.SURVIVES and not why):
-            faults += 1
         if result in (prover.SURVIVES, prover.UNDECIDED):
+            faults += result == prover.UNDECIDED or not why
             print(f"{result}: {mutant.path}:{mutant.line}: {mutant.old}→{mutant.new}: {line}" + (f"\n    known: {why}" if why else ""))
         elif why and result in KINDS:
             faults += 1
             print(f"audit/known.txt names {mutant.name}, which does not survive")
-    for row in rows[1:-1]:
-        if not partial and row[1] < FEWEST:
-            faults += 1
-            print(f"{row[0]}: fewer than {FEWEST} mutants were tried")
+    return faults
+
+
+def tell(root, sources, calls, lists, results, partial, seconds):
+    """The table, the survivors and the totals; 0 where nothing survives that is not explained, and every call has its six."""
+    tried = [(mutant, result) for mutant, result in results if result in KINDS]
+    rows = table(sources, calls, tried, partial)
+    show(rows)
+    explained = known(root)
+    faults = survivors(sources, results, explained)
+    if not partial:
+        there = {(mutant.label, mutant.changed_line(sources.texts[mutant.path])) for found in lists.values() for mutant in found}
+        lost = [f"audit/known.txt names no mutant: {label}: {line}" for label, line in explained if (label, line) not in there]
+        lost += [f"{row[0]}: fewer than {FEWEST} mutants were tried" for row in rows[1:-1] if row[1] < FEWEST]
+        faults += len(lost)
+        print("".join(one + "\n" for one in lost), end="")
     none = sum(result == prover.NO_PROGRAM for _, result in results)
     print(f"{len(tried)} mutants tried in {seconds:.0f} s; passed over as no program: {none}")
     return 1 if faults or not tried else 0
