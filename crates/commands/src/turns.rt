@@ -35,7 +35,7 @@ pub fn calm(s: Stream, phase: Phase, saying: Saying) -> Turn
     }
 }
 
-pub fn insert_turn(links: &mut [u32], rows: &mut [u32], s: Stream) -> Turn
+fn insert_turn(links: &mut [u32], rows: &mut [u32], s: Stream) -> Turn
     ensures { λ r. ⌜ turned r (now (links .exit)) (now (rows .exit)) ≡ insertTurn (runOf (now (links .entry)) (now (rows .entry)) s) ⌝ }
 {
     let body = s.body;
@@ -55,7 +55,7 @@ pub fn insert_turn(links: &mut [u32], rows: &mut [u32], s: Stream) -> Turn
     }
 }
 
-pub fn remove_turn(links: &mut [u32], rows: &mut [u32], s: Stream) -> Turn
+fn remove_turn(links: &mut [u32], rows: &mut [u32], s: Stream) -> Turn
     ensures { λ r. ⌜ turned r (now (links .exit)) (now (rows .exit)) ≡ removeTurn (runOf (now (links .entry)) (now (rows .entry)) s) ⌝ }
 {
     let body = s.body;
@@ -97,7 +97,7 @@ fn show_turn(links: &[u32], rows: &[u32], s: Stream, phase: Phase, key: Key) -> 
     }
 }
 
-pub fn look_turn(links: &[u32], rows: &[u32], s: Stream) -> Turn
+fn look_turn(links: &[u32], rows: &[u32], s: Stream) -> Turn
     ensures { λ r. ⌜ turned r (now (links .entry)) (now (rows .entry)) ≡ lookTurn (runOf (now (links .entry)) (now (rows .entry)) s) ⌝ }
 {
     let body = s.body;
@@ -105,7 +105,7 @@ pub fn look_turn(links: &[u32], rows: &[u32], s: Stream) -> Turn
     show_turn(links, rows, s, Phase::Between, key)
 }
 
-pub fn clear_turn(links: &mut [u32], rows: &mut [u32], s: Stream) -> Turn
+fn clear_turn(links: &mut [u32], rows: &mut [u32], s: Stream) -> Turn
     ensures { λ r. ⌜ turned r (now (links .exit)) (now (rows .exit)) ≡ clearTurn (runOf (now (links .entry)) (now (rows .entry)) s) ⌝ }
 {
     let body = s.body;

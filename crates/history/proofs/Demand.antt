@@ -17,7 +17,7 @@
 -- 5. 2 is never given, 5 only to an insert at a full table, and a refused call leaves tables and header as they were.
 --
 -- The calls and their rules are in specs/Calls, what a history is in specs/Histories, the bystander in specs/Bystander, what happens in a
--- call in specs/Events, the counts in specs/Slots, the number of removals in specs/Versions. Assumes nothing.
+-- call in specs/Events, the counts in specs/Slots, the number of removals in specs/Versions. Nothing else is assumed.
 use mathlib.Core.Path.{_≡_, sym, ap, _∙_, subst}
 use mathlib.Core.Logic.{_≢_}
 use mathlib.Core.List.{List, [], _∷_, _++_}

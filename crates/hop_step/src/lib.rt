@@ -67,8 +67,8 @@ fn hop_over(links: &[u32], header: Header, c: Cursor) -> HopAnswer
     after_run(links, used, back + 1)
 }
 
-// The answer in a table of the right shape with slot 0 even: a walk may pay those tests once.
-pub fn hop_from(links: &[u32], header: Header, cursor: Cursor) -> HopAnswer
+// The answer in a table of the right shape with slot 0 even.
+fn hop_from(links: &[u32], header: Header, cursor: Cursor) -> HopAnswer
     ensures { λ r. ⌜ ofHop r ≡ hopFrom (now (links .entry)) header cursor ⌝ }
 {
     let used = header.used;

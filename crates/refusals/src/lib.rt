@@ -49,7 +49,7 @@ pub fn lent_number(links: usize, rows: usize) -> u32
 }
 
 // The header, beside the lent count.
-pub fn header_number(n: u32, lent: usize, header: Header) -> u32
+fn header_number(n: u32, lent: usize, header: Header) -> u32
     ensures { λ r. ⌜ r ≡ headerNumber n lent header ⌝ }
 {
     let used = header.used;
@@ -67,13 +67,13 @@ pub fn shape_number(links: &[u32], rows: &[u32], header: Header) -> u32
 }
 
 // A side buffer's length, beside the one that is asked for.
-pub fn side_number(n: u32, side: usize, asked: usize) -> u32
+fn side_number(n: u32, side: usize, asked: usize) -> u32
     ensures { λ r. ⌜ r ≡ sideNumber n side asked ⌝ }
 {
     or_if(n, side != asked, SHAPE)
 }
 
-pub fn zero_number(n: u32, links: &[u32], header: Header) -> u32
+fn zero_number(n: u32, links: &[u32], header: Header) -> u32
     ensures { λ r. ⌜ r ≡ zeroNumber n (now (links .entry)) header ⌝ }
 {
     or_if(n, version(links, header.used, 0) % 2 == 1, DAMAGED)
@@ -101,7 +101,7 @@ pub fn side_entry_number(
     )
 }
 
-pub fn live_key(links: &[u32], header: Header, key: Key) -> bool
+fn live_key(links: &[u32], header: Header, key: Key) -> bool
     ensures { λ r. ⌜ r ≡ liveKey (now (links .entry)) header key ⌝ }
 {
     let used = header.used;
