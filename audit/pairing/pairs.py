@@ -1,0 +1,92 @@
+"""A pair: one mistake, made in a rule and in the code together. It is a text of lines:
+
+    # what it gets wrong
+    # differs at: where that shows
+    prove: CRATE              (where the code's own crate is not the one whose proof is to be asked)
+    file: crates/..           holds for the places after it
+    old: ..                   stands in the file once
+    more: ..                  one more line of the old or the new text
+    new: ..                   what stands there instead; nothing: the line goes
+"""
+import dataclasses
+import pathlib
+
+FOLDER = pathlib.Path("audit/pairs")
+KNOWN = FOLDER / "known"
+
+
+class Bad(Exception):
+    """A pair that cannot be tried."""
+
+
+@dataclasses.dataclass
+class Pair:
+    name: str
+    text: str
+    wrong: str = ""
+    differs: str = ""
+    prove: str = ""
+    edits: list = dataclasses.field(default_factory=list)  # of [file, old, new]
+
+    def crates(self):
+        """The crates whose proof is asked: those of the changed code."""
+        if self.prove:
+            return self.prove.split()
+        return sorted({file.split("/")[1] for file, _, _ in self.edits if "/src/" in file})
+
+
+def read(path):
+    pair = Pair(path.stem, path.read_text(encoding="utf-8"))
+    file, last = "", None
+    for line in pair.text.splitlines():
+        word, _, rest = line.partition(": ")
+        word = word.rstrip(":")
+        if word == "# differs at":
+            pair.differs = rest
+        elif line.startswith("# "):
+            pair.wrong = pair.wrong or line[2:]
+        elif word == "prove":
+            pair.prove = rest
+        elif word == "file":
+            file = rest
+        elif word == "old":
+            pair.edits.append([file, rest, ""])
+            last = 1
+        elif word == "new":
+            pair.edits[-1][2] = rest
+            last = 2
+        elif word == "more":
+            pair.edits[-1][last] += "\n" + rest
+        elif line:
+            raise Bad(f"{path.name}: what is '{line}'?")
+    _look(pair)
+    return pair
+
+
+def _look(pair):
+    files = [file for file, _, _ in pair.edits]
+    rules = [file for file in files if file.startswith("crates/rules/specs/")]
+    code = [file for file in files if file.startswith("crates/") and "/src/" in file]
+    if not rules or not code or len(rules) + len(code) < len(files):
+        raise Bad(f"{pair.name}: it changes rules and code, both, and nothing else")
+    if not pair.wrong or not pair.differs:
+        raise Bad(f"{pair.name}: it does not say what is wrong, or where that shows")
+
+
+def apply(pair, root):
+    for file, old, new in pair.edits:
+        path = root / file
+        text = path.read_text(encoding="utf-8")
+        if text.count(old) != 1:
+            raise Bad(f"{pair.name}: in {file} this stands {text.count(old)} times: {old}")
+        at = text.index(old)
+        end = at + len(old)
+        if not new and text[:at].rpartition("\n")[2].strip() == "" and text[end] == "\n":
+            at, end = text[:at].rfind("\n") + 1, end + 1
+        path.write_text(text[:at] + new + text[end:], encoding="utf-8")
+
+
+def known():
+    """The pairs that nothing can notice, each with the reason."""
+    lines = KNOWN.read_text(encoding="utf-8").splitlines() if KNOWN.exists() else []
+    return dict(line.split(": ", 1) for line in lines if line and not line.startswith("#"))
