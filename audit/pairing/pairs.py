@@ -7,6 +7,7 @@
     old: ..                   stands in the file once
     more: ..                  one more line of the old or the new text
     new: ..                   what stands there instead; nothing: the line goes
+The proof of an own law of the rules that names the bent place may be mended with it, so that what stands above can be asked.
 """
 import dataclasses
 import pathlib
@@ -67,8 +68,9 @@ def _look(pair):
     files = [file for file, _, _ in pair.edits]
     rules = [file for file in files if file.startswith("crates/rules/specs/")]
     code = [file for file in files if file.startswith("crates/") and "/src/" in file]
-    if not rules or not code or len(rules) + len(code) < len(files):
-        raise Bad(f"{pair.name}: it changes rules and code, both, and nothing else")
+    laws = [file for file in files if file.startswith("crates/rules/proofs/")]
+    if not rules or not code or len(rules) + len(code) + len(laws) < len(files):
+        raise Bad(f"{pair.name}: it changes rules and code, both, and nothing else but proofs of the rules' own laws")
     if not pair.wrong or not pair.differs:
         raise Bad(f"{pair.name}: it does not say what is wrong, or where that shows")
 

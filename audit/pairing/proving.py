@@ -4,10 +4,8 @@ laws; what is refused in a group is asked again in smaller ones, and alone in th
 import re
 import time
 
-from pairing import records, scratch
+from pairing import laws, records, scratch
 from pairing.pairs import Bad, apply
-
-LAWS = "crates/rules/proofs"
 
 
 def ask_all(pairs, again):
@@ -23,18 +21,13 @@ def ask_all(pairs, again):
 
 
 def same_calls(pair):
-    """Its code makes the same calls in the same order."""
-    return all(re.findall(r"(\w+)\(", old) == re.findall(r"(\w+)\(", new) for file, old, new in pair.edits if "/src/" in file)
+    """Its code makes the same calls, sums and differences in the same order: each is named in a proof."""
+    return all(re.findall(r"\w+\(|[+-]", old) == re.findall(r"\w+\(|[+-]", new) for file, old, new in pair.edits if "/src/" in file)
 
 
 def leans(pair):
     """The laws of the rules that the proofs of its crates name."""
-    return tuple(sorted({law for crate in pair.crates() for law in laws_named(crate)}))
-
-
-def laws_named(crate):
-    proofs = (scratch.ROOM / "crates" / crate / "proofs").rglob("*.antt")
-    return {law for path in proofs for law in re.findall(r"rules\.proofs\.(\w+)", path.read_text(encoding="utf-8"))}
+    return tuple(sorted({law for crate in pair.crates() for law in laws.named(crate)}))
 
 
 def ask_groups(pairs):
@@ -61,7 +54,10 @@ def fitting(pairs):
 
 def ask(group):
     began = time.monotonic()
-    proved, answer = answers_of(group)
+    try:
+        proved, answer = answers_of(group)
+    except Bad:
+        proved, answer = set(), "not asked"
     good = [pair for pair in group if set(pair.crates()) <= proved]
     rest = [pair for pair in group if pair not in good]
     took = time.monotonic() - began
@@ -88,9 +84,9 @@ def answers_of(group):
     for pair in group:
         apply(pair, scratch.ROOM)
     scratch.without_bench()
-    taken = without_failing_laws()
+    taken = laws.take_out()
     crates = {crate for pair in group for crate in pair.crates()}
-    blocked = {crate: sorted(taken & {law for one in needed(crate) for law in laws_named(one)}) for crate in crates}
+    blocked = {crate: sorted(taken & {law for one in scratch.needed(crate) for law in laws.named(one)}) for crate in crates}
     free = sorted(crate for crate in crates if not blocked[crate])
     if not free:
         return set(), f"law {min(blocked.values())[0]}"
@@ -99,29 +95,3 @@ def answers_of(group):
     first = (scratch.refused_in(said) or ["no file named"])[0]
     name = first.replace("/proofs/", "/").removesuffix(".antt").removesuffix("/Proof")
     return proved, "runs" if name.startswith("runs/") else f"reading ({name})"
-
-
-def without_failing_laws():
-    """Takes out of the rules' own laws those that fail, until the rest is proved; their names."""
-    taken = set()
-    while True:
-        status, said = scratch.rt("check", "rules")
-        if status == 0:
-            return taken
-        names = {file.rpartition("/")[2].removesuffix(".antt") for file in scratch.refused_in(said)}
-        if status != 1 or not names or names & taken:
-            raise Bad("the rules cannot be built:\n" + said[:1500])
-        taken |= names
-        folder = scratch.ROOM / LAWS
-        listed = (folder / "Lib.antt").read_text(encoding="utf-8")
-        for name in names:
-            listed = re.sub(rf"^(pub )?mod {name}\n", "", listed, flags=re.M)
-            (folder / f"{name}.antt").unlink()
-        (folder / "Lib.antt").write_text(listed, encoding="utf-8")
-
-
-def needed(crate):
-    """The crate and what it stands on, but for the rules."""
-    lines = (scratch.ROOM / "crates.txt").read_text(encoding="utf-8").splitlines()
-    stands = dict(line.split(":", 1) for line in lines if ":" in line and not line.startswith("#"))
-    return {crate, *stands[crate].split()} - {"rules"}

@@ -1,7 +1,7 @@
 """Who notices a pair: each question leaves answers, in words; an empty one is 'not noticed'."""
 import pathlib
 
-from pairing import scratch
+from pairing import laws, scratch
 from pairing.pairs import Bad
 
 BENCH = "rules/proofs/Bench.antt"
@@ -18,17 +18,23 @@ def of_rules(_answers):
 
 
 def of_laws(answers):
-    """The laws of runs, and where they stand those of histories; both over rules without the bench."""
+    """The laws of runs, and where they stand those of histories. Where own laws of the rules fail, and nobody else has noticed, it is asked past
+    them: they are taken out, if runs does not stand on them."""
+    taken = set()
+    if answers["own"] and any(answers[name] for name in ("bench", "list", "vectors")):
+        return {"laws": "", "unasked": answers["own"]}
     if answers["own"]:
-        return {"laws": "", "unasked": "the rules' own law fails"}
+        taken = laws.take_out()
     for crate in ("runs", "history"):
+        if taken & laws.named(crate):
+            return {"laws": "", "unasked": answers["own"]}
         status, said = scratch.rt("check", crate)
         if status == 0:
             continue
         files = scratch.refused_in(said)
         if status != 1 or not files:
             raise Bad(f"{crate} could not be asked:\n" + said[-1500:])
-        return {"laws": f"{crate}: {short(files)}", "unasked": ""}
+        return {"laws": short(files), "unasked": ""}
     return {"laws": "", "unasked": ""}
 
 
@@ -80,5 +86,4 @@ def short(files):
     return f"{names[0]} and {len(names) - 1} more"
 
 
-# each question, and whether it looks at the fixed list
-EVERY = [(of_rules, False), (of_laws, False), (of_list, True)]
+EVERY = (of_rules, of_list, of_laws)

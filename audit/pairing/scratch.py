@@ -41,7 +41,7 @@ def rt(*words):
 def refused_in(said):
     """The files in which something was refused, in the order told: CRATE/proofs/FILE."""
     files = []
-    for file in re.findall(r"^(\S+?):\d+:\d+: error", said, re.M):
+    for file in re.findall(r"^(\S+?):\d+:\d+: (?:error|`[^`]*` is not admitted)", said, re.M):
         file = file.partition("/crates/")[2] or file
         if file not in files:
             files.append(file)
@@ -54,3 +54,10 @@ def without_bench():
     text = (laws / "Lib.antt").read_text(encoding="utf-8")
     (laws / "Lib.antt").write_text(text.replace("-- The bench.\nmod Bench\n", ""), encoding="utf-8")
     (laws / "Bench.antt").unlink()
+
+
+def needed(crate):
+    """The crate and what it stands on, but for the rules."""
+    lines = pathlib.Path("crates.txt").read_text(encoding="utf-8").splitlines()
+    stands = dict(line.split(":", 1) for line in lines if ":" in line and not line.startswith("#"))
+    return {crate, *stands[crate].split()} - {"rules"}

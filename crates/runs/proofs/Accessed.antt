@@ -8,9 +8,9 @@ use lib.Dec.{ltb, eqb}
 use borrow.Author.Tests.{eq-eqb, eqb-true, ltb-true, not-false}
 use Rattle.rules.specs.Choice.{pick}
 use Rattle.rules.specs.Words.{rowWords, lentOf, versionAt, rowAt, setRow}
-use Rattle.rules.specs.Values.{counted}
+use Rattle.rules.specs.Values.{Outcome, counted, keyed, unless}
 use Rattle.rules.specs.Refusals.{passes, sideNumber, liveKey, liveNumber}
-use Rattle.rules.specs.Access.{lookRule, replaceNumber, replaceRule}
+use Rattle.rules.specs.Access.{lookRule, lookRowRule, replaceNumber, replaceRule}
 use Rattle.rules.specs.Start.{roomRule}
 use Rattle.rules.specs.declared.Header.{Header}
 use Rattle.rules.specs.declared.Key.{Key}
@@ -32,6 +32,16 @@ module _ (l r : List ℕ) (hd : Header) (m : Machine) (s : Shows l r hd m) where
   look-is k =
       ap (λ (n : ℕ). pick (eqb n 0) (rowAt r (hd .used) (k .index)) []) (key-number-is l r hd m s k)
       ∙ ap (λ (x : Machine). pick (eqb (keyNumberOn passes m k) 0) (x .rows (k .index)) []) (s .same)
+
+  -- a look by value: the machine's row under the key that was asked for
+  shown-row : Key → List ℕ → Outcome
+  shown-row k row = unless l r hd (keyNumberOn passes m k) (record { answer = keyed k; row = row; header = hd; links = l; rows = r })
+
+  pub look-row-is : (k : Key) → lookRowRule l r hd k ≡ unless l r hd (keyNumberOn passes m k) (record { answer = keyed k; row = m .rows (k .index); header = hd; links = l; rows = r })
+  unfolding lookRowRule shown-row
+  look-row-is k =
+      ap (λ (n : ℕ). unless l r hd n (record { answer = keyed k; row = rowAt r (hd .used) (k .index); header = hd; links = l; rows = r })) (key-number-is l r hd m s k)
+      ∙ ap (λ (x : Machine). shown-row k (x .rows (k .index))) (s .same)
 
   pub room-does : Does (roomRule l r hd) (roomOn m)
   unfolding roomRule
