@@ -59,5 +59,10 @@ def without_bench():
 def needed(crate):
     """The crate and what it stands on, but for the rules."""
     lines = pathlib.Path("crates.txt").read_text(encoding="utf-8").splitlines()
-    stands = dict(line.split(":", 1) for line in lines if ":" in line and not line.startswith("#"))
-    return {crate, *stands[crate].split()} - {"rules"}
+    uses = {line.split(":")[0]: line.split(":")[1].split() for line in lines if ":" in line and not line.startswith("#")}
+    found, waiting = {crate}, [crate]
+    while waiting:
+        new = [name for name in uses[waiting.pop()] if name not in found]
+        found.update(new)
+        waiting += new
+    return found - {"rules"}
