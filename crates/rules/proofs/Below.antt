@@ -6,6 +6,7 @@ use native.Mathlib.Decide.{decLt}
 use native.Mathlib.Numerals.{add-one}
 use native.Mathlib.Omega.{arith}
 use Rattle.rules.specs.Choice.{both, either, one-if, allBelow, someBelow, countBelow}
+use Rattle.rules.proofs.Choice.{both-if}
 
 -- what holds just past i, and from each number goes on to the next, holds of every number past i
 past : (P : ℕ → Type 0) (i : ℕ) → P (suc i) → ((n : ℕ) → P n → P (suc n)) → (n : ℕ) → i < n → P n
@@ -21,13 +22,9 @@ pub all-next : (n : ℕ) (t : ℕ → Bool) → allBelow (n + 1) t ≡ both (all
 unfolding allBelow
 all-next n t = rw add-one
 
-both-last : (a b : Bool) → b ≡ false → both a b ≡ false
-both-last true b e = e
-both-last false b e = refl
-
 pub all-missed : (t : ℕ → Bool) (n i : ℕ) → i < n → t i ≡ false → allBelow n t ≡ false
 unfolding allBelow
-all-missed t n i h e = past (λ (k : ℕ). allBelow k t ≡ false) i (both-last (allBelow i t) (t i) e) (λ k so. rw so) n h
+all-missed t n i h e = past (λ (k : ℕ). allBelow k t ≡ false) i (both-if (allBelow i t) (t i) (λ _. e)) (λ k so. rw so) n h
 
 -- some so far, or the next one; what holds of one number below holds of some
 pub some-next : (n : ℕ) (t : ℕ → Bool) → someBelow (n + 1) t ≡ either (someBelow n t) (t n)
