@@ -38,6 +38,7 @@ pub fn clear(links: &mut [u32], rows: &mut [u32], header: Header) -> Cleared
             header,
         };
     }
+    // Its answer is not looked at: past the check the last step is done (clear-ends in runs/proofs/Chosen).
     let last = drain_all(links, rows, header);
     let header_after = last.header;
     Cleared {

@@ -1,5 +1,5 @@
 -- Demand 3, of the stream: a run that begins with a table which start has left, and any bytes at all. The calls that the bytes make (calls) are
--- a history from the table at the beginning to the table after them, so all that history.proofs.Demand says of histories is said of the stream.
+-- a history from the table at the beginning to the table after them, so all that Demand3 of history.specs.Demands says is said of the stream.
 -- And in such a history no feed is refused, as long as its output has room for a reply. Assumes nothing.
 use Prim.Native.Nat.{ℕ, _<_, _≤_, max}
 use mathlib.Core.List.{List, [], _∷_, _++_, append-nil}
@@ -8,25 +8,24 @@ use mathlib.Core.Path.{_≡_, refl, sym, ap, _∙_, subst}
 use lib.ListN.{length}
 use lib.Dec.{eqb}
 use borrow.Author.Tests.{eq-eqb, eqb-false, le-ltb}
-use Rattle.rules.specs.Values.{gives, ends, Outcome, keyed, done, refused, refusal, unless}
-use Rattle.rules.specs.Refusals.{notLive, lentNumber, shapeNumber}
+use Rattle.rules.specs.Values.{gives, Outcome, keyed, done, refused, refusal, unless}
+use Rattle.rules.specs.Refusals.{notLive, shapeNumber}
 use Rattle.rules.specs.Choice.{pick}
 use Rattle.rules.specs.Words.{rowAt}
 use Rattle.rules.specs.Access.{keyNumber, lookRule, lookRowRule}
 use Rattle.rules.specs.Sound.{Sound}
-use Rattle.rules.specs.Start.{startRule}
 use Rattle.rules.specs.declared.Header.{Header}
 use Rattle.rules.specs.declared.Key.{Key}
 use Rattle.rules.proofs.Choice.{by-test}
 use Rattle.rules.proofs.Refusals.{skipped}
-use Rattle.history.specs.Calls.{Call, ask, number, check, start}
-use Rattle.history.specs.Histories.{Table, left, answer, after, answers, looked, Begun}
+use Rattle.history.specs.Calls.{Call, ask, number, check}
+use Rattle.history.specs.Histories.{Table, answer, after, answers, looked, Begun, History}
 use Rattle.history.specs.Bystander.{reckoned}
 use Rattle.history.specs.Events.{Event, removed, events, seen}
 use Rattle.history.specs.Slots.{slots, most}
 use Rattle.history.specs.Versions.{round}
 use Rattle.history.specs.Refusals.{Numbers}
-use Rattle.history.proofs.Demand
+use Rattle.history.proofs.Demands.{demand-3}
 use Rattle.wire.specs.Replies.{longest}
 use Rattle.commands.specs.Turns.{Run, tableOf}
 use Rattle.hearing.specs.Heard.{possible}
@@ -38,13 +37,6 @@ use Rattle.course.proofs.Pieces.{pieces}
 use Rattle.course.proofs.Possible.{pieces-possible}
 use Rattle.course.proofs.Histories.{calls-lead, calls-within, walked-out-table}
 
--- the table that a start leaves, where it is not refused, is one that a history begins with
-pub start-begins : (l r : List ℕ) (hd : Header) → lentNumber (length l) (length r) ≡ 0 → Begun (left (startRule l r hd))
-unfolding startRule unless
-start-begins l r hd e =
-    let done-there : startRule l r hd .answer .kind ≡ ends = simp (eq-eqb (lentNumber (length l) (length r)) 0 e) in
-    record { by = start; links = l; rows = r; header = hd; unrefused = λ h. eqb-false 0 1 refl (cc); leaves = refl }
-
 module _ (s : Run) (b : Begun (tableOf s)) (bs : List ℕ) where
   abbrev t : Table
   t = tableOf s
@@ -55,36 +47,39 @@ module _ (s : Run) (b : Begun (tableOf s)) (bs : List ℕ) where
   abbrev now : Table
   now = tableOf (course s bs .run)
 
+  abbrev made : History
+  made = record { first = t; begun = b; calls = cs; within = calls-within s bs }
+
   -- what is so after the calls is so now
   carried : (P : Table → Type 0) → P (after t cs) → P now
   carried P p = subst P (sym (calls-lead s bs)) p
 
   -- 1. live keys and rows
   pub live-keys : (k : Key) → looked now k ≡ reckoned (looked t) cs (answers t cs) k
-  live-keys k = carried (λ (x : Table). looked x k ≡ reckoned (looked t) cs (answers t cs) k) (Demand.live-keys t b cs (calls-within s bs) k)
+  live-keys k = carried (λ (x : Table). looked x k ≡ reckoned (looked t) cs (answers t cs) k) (demand-3 .live-keys made k)
 
   -- 2. the chain
   pub sound : (shapeNumber (now .links) (now .rows) (now .header) ≡ 0) × Sound (now .links) (now .header)
   sound =
       carried (λ (x : Table). (shapeNumber (x .links) (x .rows) (x .header) ≡ 0) × Sound (x .links) (x .header))
-      (Demand.sound t b cs (calls-within s bs))
+      (demand-3 .shaped made, demand-3 .sound made)
 
   pub check-passes : answer now (ask check) ≡ done
-  check-passes = carried (λ (x : Table). answer x (ask check) ≡ done) (Demand.check-passes t b cs (calls-within s bs))
+  check-passes = carried (λ (x : Table). answer x (ask check) ≡ done) (demand-3 .check-passes made)
 
   -- 3. slots
   pub slots-law : slots now ≡ max (slots t) (most t cs)
-  slots-law = carried (λ (x : Table). slots x ≡ max (slots t) (most t cs)) (Demand.slots-law t b cs (calls-within s bs))
+  slots-law = carried (λ (x : Table). slots x ≡ max (slots t) (most t cs)) (demand-3 .slots-law made)
 
   -- 4. dead keys
   pub dead : (es fs : List Event) (k : Key) → events t cs ≡ es ++ removed k ∷ fs → seen (k .index) (removed k ∷ fs) < round →
       answer now (ask (number k)) ≡ refused notLive
   dead es fs k at few =
-      carried (λ (x : Table). answer x (ask (number k)) ≡ refused notLive) (Demand.dead t b cs (calls-within s bs) es fs k at few)
+      carried (λ (x : Table). answer x (ask (number k)) ≡ refused notLive) (demand-3 .dead made es fs k at few)
 
-  -- 5. refusals: of any call that comes next
-  pub refusals : (c : Call) → Numbers now c
-  refusals c = carried (λ (x : Table). Numbers x c) (Demand.refusals t b cs (calls-within s bs) c)
+  -- 5. numbers: of any call that comes next
+  pub numbers : (c : Call) → Numbers now c
+  numbers c = carried (λ (x : Table). Numbers x c) (demand-3 .numbers made c)
 
 -- the row that a look replies with, and a step of a walk, is the one that its key has
 pub shown-row : (l r : List ℕ) (hd : Header) (k : Key) → lookRowRule l r hd k .answer .kind ≡ gives → lookRowRule l r hd k .row ≡ lookRule l r hd k

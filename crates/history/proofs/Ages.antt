@@ -1,8 +1,8 @@
--- The version of a slot so many removals later, whatever else happened. Assumes nothing.
+-- The version of a slot so many removals later, whatever else happened; and after how many it comes round. Assumes nothing.
 use mathlib.Core.Path.{_≡_, refl, sym, ap, _∙_, subst}
 use mathlib.Core.Logic.{_≢_}
 use mathlib.Core.List.{List, [], _∷_}
-use Prim.Native.Nat.{ℕ, zero, suc, _+_, _*_, _<_, _%_, _^_}
+use Prim.Native.Nat.{ℕ, zero, suc, _+_, _*_, _/_, _<_, _%_, _^_}
 use native.Mathlib.Decide.{ℕ-discrete}
 use native.Mathlib.Nat.{zero-add, add-zero}
 use native.Mathlib.Omega.{arith}
@@ -84,17 +84,26 @@ module _ (m : Machine) (k : Key) (es : List Event) (m′ : Machine) (p : Path m 
   own-seen = omega (arith, its-own (k .index) k refl)
 
 -- so many times removed and filled again: the version as a number; from the first time on it is a word
-pub refilled-is : (n w : ℕ) → w % 2 ≡ 1 → w < 2 ^ 32 → refilledTimes n w ≡ (w + 2 * n) % 2 ^ 32
+refilled-is : (n w : ℕ) → w % 2 ≡ 1 → w < 2 ^ 32 → refilledTimes n w ≡ (w + 2 * n) % 2 ^ 32
 unfolding refilledTimes
 refilled-is zero w o b = omega arith
 refilled-is (suc n) w o b = omega (arith, refilled-is n w o b)
 
-pub refilled-word : (n w : ℕ) → 0 < n → refilledTimes n w < 2 ^ 32
+refilled-word : (n w : ℕ) → 0 < n → refilledTimes n w < 2 ^ 32
 unfolding refilledTimes
 refilled-word zero w p = absurd (omega arith)
 refilled-word (suc n) w p = omega arith
 
 -- fewer than a round are no whole turn of the 32 bits
-pub no-turn : (n q : ℕ) → 0 < n → n < round → q * 2 ^ 32 ≡ 2 * n → ⊥
+no-turn : (n q : ℕ) → 0 < n → n < round → q * 2 ^ 32 ≡ 2 * n → ⊥
 no-turn n zero p l e = omega arith
 no-turn n (suc q) p l e = omega arith
+
+-- so many times removed and filled again the version is what it was, and never before
+pub comes-round : (v : ℕ) → v % 2 ≡ 1 → v < 2 ^ 32 → refilledTimes round v ≡ v
+comes-round v o w = omega (arith, refilled-is round v o w)
+
+pub not-before : (n v : ℕ) → v % 2 ≡ 1 → 0 < n → n < round → refilledTimes n v ≢ v
+not-before n v o p l e =
+    let w : v < 2 ^ 32 = omega (arith, refilled-word n v p) in
+    no-turn n ((v + 2 * n) / 2 ^ 32) p l (omega (arith, refilled-is n v o w))

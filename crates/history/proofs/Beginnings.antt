@@ -1,4 +1,5 @@
--- Where a history begins: each beginning leaves a table that is a machine, one lemma each; and which keys are live then. Assumes nothing.
+-- Where a history begins: what start and rebuild leave, where they pass their tests; that it is a machine, one lemma a beginning; and which
+-- keys are live then. Assumes nothing.
 use mathlib.Core.Path.{_≡_, refl, ap, _∙_, subst}
 use mathlib.Core.List.{List, []}
 use mathlib.Core.Bool.{Bool, false}
@@ -6,10 +7,10 @@ use Prim.Native.Nat.{ℕ, _%_}
 use native.Mathlib.Omega.{arith}
 use lib.ListN.{length}
 use lib.Dec.{eqb}
-use borrow.Author.Tests.{eqb-true, eqb-false}
+use borrow.Author.Tests.{eq-eqb, eqb-true, eqb-false}
 use Rattle.rules.specs.Choice.{pick}
 use Rattle.rules.specs.Words.{lentOf, versionAt, rowAt}
-use Rattle.rules.specs.Values.{Values, Outcome, refusal, unless}
+use Rattle.rules.specs.Values.{ends, Values, Outcome, refusal, unless}
 use Rattle.rules.specs.Refusals.{lentNumber, liveBy}
 use Rattle.rules.specs.Start.{startRule}
 use Rattle.rules.specs.Rebuild.{rebuildNumber, rebuildRule}
@@ -28,13 +29,31 @@ use Rattle.history.specs.Histories.{Table, left, looked, Refused, Begun,
 use Rattle.history.proofs.Live.{Live, live-is, live-yes, look-live, look-dead}
 use Rattle.history.proofs.Reduced.{Stands}
 
--- a call that was not refused has passed its tests
+-- a call that passes its tests and is done is not refused, and one that was not refused has passed them
+passes-unrefused : (l r : List ℕ) (hd : Header) (n : ℕ) (o : Outcome) → n ≡ 0 → o .answer .kind ≡ ends → Refused (unless l r hd n o) → ⊥
+unfolding unless
+passes-unrefused l r hd n o z e h =
+    let k : unless l r hd n o .answer .kind ≡ ends = simp (eq-eqb n 0 z) e in
+    eqb-false 0 1 refl (cc)
+
 unrefused-passes : (l r : List ℕ) (hd : Header) (n : ℕ) (o : Outcome) → (Refused (unless l r hd n o) → ⊥) → n ≡ 0
 unfolding unless
 unrefused-passes l r hd n o h =
     by-test (λ (t : Bool). eqb n 0 ≡ t → (Refused (pick t o (refusal l r hd n)) → ⊥) → n ≡ 0) (eqb n 0)
     (λ _ e _. eqb-true n 0 e) (λ _ e k. absurd (k refl)) refl h
 
+-- the table that a start, or a rebuild, leaves where its number is 0 is one that a history begins with
+pub start-begins : (l r : List ℕ) (hd : Header) → lentNumber (length l) (length r) ≡ 0 → Begun (left (startRule l r hd))
+unfolding startRule
+start-begins l r hd e =
+    record { by = start; links = l; rows = r; header = hd; unrefused = passes-unrefused l r hd _ _ e refl; leaves = refl }
+
+pub rebuild-begins : (l r : List ℕ) (hd : Header) (bytes : List ℕ) → rebuildNumber l r bytes ≡ 0 → Begun (left (rebuildRule l r hd bytes))
+unfolding rebuildRule
+rebuild-begins l r hd bytes e =
+    record { by = rebuild bytes; links = l; rows = r; header = hd; unrefused = passes-unrefused l r hd _ _ e refl; leaves = refl }
+
+-- and it is a machine
 begun-by : (b : Beginning) (l r : List ℕ) (hd : Header) → (Refused (beginRule b l r hd) → ⊥) → (m : Machine) × Stands (left (beginRule b l r hd)) m
 unfolding startRule rebuildRule
 begun-by start l r hd h = (_, start-does l r hd (unrefused-passes l r hd (lentNumber (length l) (length r)) _ h) .shows)

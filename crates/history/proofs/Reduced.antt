@@ -35,12 +35,11 @@ use Rattle.history.specs.Calls.{Row, Beginning, Question, number, look, 
 use Rattle.history.specs.Histories.{Table, outcome, answer, next, GoesOn}
 use Rattle.history.specs.Bystander.{struck, noted}
 use Rattle.history.specs.Events.{Event, removed, wrote, allRemoved, chosenRemoved, happening}
-use Rattle.history.specs.Refusals.{Numbers}
 use Rattle.history.proofs.Live.{Live, live-is, passes-live}
 use Rattle.history.proofs.Paths.{Hands, Writes}
 use Rattle.history.proofs.Becoming.{Becomes, nothing, one-event, freed-removes, all-chosen}
 use Rattle.history.proofs.Parts.{written-live, written-none}
-use Rattle.history.proofs.Refusing.{insert-numbers, remove-numbers, write-numbers, replace-numbers, drain-numbers, clear-numbers, retain-numbers, begin-numbers, ask-numbers}
+use Rattle.history.proofs.AnyWords.{told}
 
 abbrev pub Stands : Table → Machine → Type 0
 Stands t m = Shows (t .links) (t .rows) (t .header) m
@@ -51,10 +50,9 @@ pub record Happened (t : Table) (m : Machine) (c : Call) : Type 0 where
   pub stands : Stands (next t c) machine
   pub becomes : Becomes m (happening t c (answer t c)) (noted c (answer t c) (lookOn m)) machine
 
--- any call has its numbers; one that goes on with the history comes down to its events
-pub record Reduces (t : Table) (m : Machine) (c : Call) : Type 0 where
-  pub numbers : Numbers t c
-  pub goes : GoesOn t c → Happened t m c
+-- a call that goes on with the history comes down to its events
+abbrev pub Reduces : Table → Machine → Call → Type 0
+Reduces t m c = GoesOn t c → Happened t m c
 
 module _ (t : Table) (m : Machine) (s : Shows (t .links) (t .rows) (t .header) m) where
   z : Headed m
@@ -64,15 +62,12 @@ module _ (t : Table) (m : Machine) (s : Shows (t .links) (t .rows) (t .header) m
   abbrev Tells : Call → Step → Type 0
   Tells c x = Becomes m (happening t c (x .answer)) (noted c (x .answer) (lookOn m)) (x .machine)
 
-  reduced : (c : Call) (x : Step) → Numbers t c → Does (outcome t c) x → Tells c x → Reduces t m c
-  reduced c x n d b =
+  reduced : (c : Call) (x : Step) → Does (outcome t c) x → Tells c x → Reduces t m c
+  reduced c x d b _ =
       record {
-        numbers = n;
-        goes = λ _. record {
-          machine = x .machine;
-          stands = d .shows;
-          becomes = subst (λ (a : Values). Becomes m (happening t c a) (noted c a (lookOn m)) (x .machine)) (sym (d .answer)) b;
-        };
+        machine = x .machine;
+        stands = d .shows;
+        becomes = subst (λ (a : Values). Becomes m (happening t c a) (noted c a (lookOn m)) (x .machine)) (sym (d .answer)) b;
       }
 
   fronts : Fronts (m .versions) (m .used) (m .fronts)
@@ -119,7 +114,7 @@ module _ (t : Table) (m : Machine) (s : Shows (t .links) (t .rows) (t .header) m
   pub insert-reduces : (side : List ℕ) → Reduces t m (insert side)
   unfolding insertOn grownBy filledBy
   insert-reduces side =
-      reduced (insert side) (insertOn m side) (insert-numbers t m s side) (insert-does _ _ _ m s side)
+      reduced (insert side) (insertOn m side) (insert-does _ _ _ m s side)
       (unless-tells (insert side) (insertNumberOn m side) _ (nothing m z)
       (λ _. by-pick (Tells (insert side)) (eqb (place m) 0) (grownBy m side) (filledBy m side (place m))
       (λ e. one-event m z _ _ (grown-hands side (eqb-true _ _ e)))
@@ -128,7 +123,7 @@ module _ (t : Table) (m : Machine) (s : Shows (t .links) (t .rows) (t .header) m
   pub remove-reduces : (k : Key) → Reduces t m (remove k)
   unfolding removeOn
   remove-reduces k =
-      reduced (remove k) (removeOn m k) (remove-numbers t m s k) (remove-does _ _ _ m s k)
+      reduced (remove k) (removeOn m k) (remove-does _ _ _ m s k)
       (unless-tells (remove k) (keyNumberOn passes m k) (takenOut m k) (nothing m z)
       (λ e. one-event m z (removed k) _ (freed-removes m k (passes-live m k e))))
 
@@ -138,8 +133,7 @@ module _ (t : Table) (m : Machine) (s : Shows (t .links) (t .rows) (t .header) m
   written-writes k row a = record { live = a; versions = refl; rows = refl; used = refl }
 
   pub write-reduces : (k : Key) (row : Row) → Reduces t m (write k row)
-  write-reduces k row =
-      record { numbers = write-numbers t m s k row; goes = λ _. go (ℕ-discrete (keyNumber (t .links) (t .rows) (t .header) k) 0) }
+  write-reduces k row _ = go (ℕ-discrete (keyNumber (t .links) (t .rows) (t .header) k) 0)
     where
       -- the rows that are left, and what the answer tells
       leaves : (r : List ℕ) (x : Machine) → writeRule (t .links) (t .rows) (t .header) k row .rows ≡ r → Shows (t .links) r (t .header) x →
@@ -161,7 +155,7 @@ module _ (t : Table) (m : Machine) (s : Shows (t .links) (t .rows) (t .header) m
   pub replace-reduces : (k : Key) (side : List ℕ) → Reduces t m (replace k side)
   unfolding replaceOn
   replace-reduces k side =
-      reduced (replace k side) (replaceOn m k side) (replace-numbers t m s k side) (replace-does _ _ _ m s k side)
+      reduced (replace k side) (replaceOn m k side) (replace-does _ _ _ m s k side)
       (unless-tells (replace k side) (keyNumberOn (sideNumber passes (length side) rowWords) m k) _ (nothing m z)
       (λ e. one-event m z (wrote k side) _ (written-writes k side (live-is m k (key-live _ m k e .1)))))
 
@@ -172,7 +166,7 @@ module _ (t : Table) (m : Machine) (s : Shows (t .links) (t .rows) (t .header) m
   pub drain-reduces : Reduces t m drain
   unfolding drainOn
   drain-reduces =
-      reduced drain (drainOn m) (drain-numbers t m s) (drain-does _ _ _ m s)
+      reduced drain (drainOn m) (drain-does _ _ _ m s)
       (by-pick (Tells drain) (eqb (liveOf m) 0) (stays m done) (takenOut m (keyOf m (lowest m))) (λ _. nothing m z)
       (λ e. one-event m z (removed (keyOf m (lowest m))) _ (freed-removes m (keyOf m (lowest m)) (lowest-key (eqb-false _ _ e)))))
 
@@ -186,12 +180,12 @@ module _ (t : Table) (m : Machine) (s : Shows (t .links) (t .rows) (t .header) m
 
   pub clear-reduces : Reduces t m clear
   unfolding clearOn
-  clear-reduces = reduced clear (clearOn m) (clear-numbers t m s) (clear-does _ _ _ m s) (chosen-tells all)
+  clear-reduces = reduced clear (clearOn m) (clear-does _ _ _ m s) (chosen-tells all)
 
   pub retain-reduces : (bytes : List ℕ) → Reduces t m (retain bytes)
   unfolding retainOn
   retain-reduces bytes =
-      reduced (retain bytes) (retainOn m bytes) (retain-numbers t m s bytes) (retain-does _ _ _ m s bytes)
+      reduced (retain bytes) (retainOn m bytes) (retain-does _ _ _ m s bytes)
       (unless-tells (retain bytes) (sideNumber passes (length bytes) (m .used)) _ (nothing m z) (λ _. chosen-tells (struckBy bytes)))
 
   -- where the table is left as it was, nothing happened
@@ -200,17 +194,15 @@ module _ (t : Table) (m : Machine) (s : Shows (t .links) (t .rows) (t .header) m
 
   -- questions
   pub ask-reduces : (q : Question) → Reduces t m (ask q)
-  ask-reduces (number k) = record { numbers = ask-numbers t m s (number k); goes = λ _. unmoved (ask (number k)) refl (nothing m z) }
-  ask-reduces (look k) = record { numbers = ask-numbers t m s (look k); goes = λ _. unmoved (ask (look k)) refl (nothing m z) }
-  ask-reduces (hop c) = reduced (ask (hop c)) (hopOn m c) (ask-numbers t m s (hop c)) (hop-does _ _ _ m s c) (nothing m z)
-  ask-reduces check = reduced (ask check) (checkOn m) (ask-numbers t m s check) (check-does _ _ _ m s) (nothing m z)
-  ask-reduces room = reduced (ask room) (roomOn m) (ask-numbers t m s room) (room-does _ _ _ m s) (nothing m z)
+  ask-reduces (number k) = λ _. unmoved (ask (number k)) refl (nothing m z)
+  ask-reduces (look k) = λ _. unmoved (ask (look k)) refl (nothing m z)
+  ask-reduces (hop c) = reduced (ask (hop c)) (hopOn m c) (hop-does _ _ _ m s c) (nothing m z)
+  ask-reduces check = reduced (ask check) (checkOn m) (check-does _ _ _ m s) (nothing m z)
+  ask-reduces room = reduced (ask room) (roomOn m) (room-does _ _ _ m s) (nothing m z)
 
   -- a start or a rebuild goes on with the history only where it is refused
   pub begin-reduces : (b : Beginning) → Reduces t m (begin b)
-  begin-reduces b =
-      let n = begin-numbers t m s b in
-      record { numbers = n; goes = λ g. unmoved (begin b) (n .unmoved g) (nothing m z) }
+  begin-reduces b g = unmoved (begin b) (told t (begin b) .down g .unchanged) (nothing m z)
 
 -- any call
 pub reduces : (t : Table) (m : Machine) → Stands t m → (c : Call) → Reduces t m c

@@ -6,10 +6,10 @@ use Prim.Native.Nat.{ℕ, zero, suc, _≤_, _%_}
 use native.Mathlib.Omega.{arith}
 use lib.ListN.{length}
 use lib.Dec.{eqb}
-use borrow.Author.Tests.{eq-eqb, ne-eqb, eqb-false}
+use borrow.Author.Tests.{eq-eqb, ne-eqb}
 use Rattle.rules.specs.Choice.{pick}
 use Rattle.rules.specs.Words.{lentOf, zeroRow, withBit, rise}
-use Rattle.rules.specs.Values.{Values, keyed}
+use Rattle.rules.specs.Values.{keyed}
 use Rattle.rules.specs.Refusals.{_▸_, lentNumber, sideNumber}
 use Rattle.rules.specs.Start.{startRule}
 use Rattle.rules.specs.Bench.{key}
@@ -26,14 +26,15 @@ use Rattle.runs.proofs.Inserted.{insert-does}
 use Rattle.runs.proofs.Removed.{remove-does}
 use Rattle.runs.proofs.Accessed.{look-is}
 use Rattle.runs.proofs.Begun.{start-does}
-use Rattle.history.specs.Calls.{Row, start, Call, insert, remove}
+use Rattle.history.specs.Calls.{Row, Call, insert, remove}
 use Rattle.history.specs.Histories.{Table, left, outcome, next, after, looked, Begun, Within}
 use Rattle.history.specs.Events.{events, seen}
 use Rattle.history.specs.Versions.{refilled, refilledTimes, round}
 use Rattle.history.specs.Rounds.{rounds}
 use Rattle.history.proofs.Live.{Live, live-passes, look-live}
+use Rattle.history.proofs.Ages.{comes-round}
 use Rattle.history.proofs.Reduced.{Stands}
-use Rattle.history.proofs.Demand.{comes-round}
+use Rattle.history.proofs.Beginnings.{start-begins}
 
 -- a slot changed twice
 put-again : {A : Type 0} (f : ℕ → A) (i : ℕ) (x y : A) → put (put f i x) i y ≡ put f i y
@@ -108,9 +109,7 @@ module _ (l r : List ℕ) (hd : Header) (ok : lentNumber (length l) (length r) �
       record { within = (tt, e .within); count = simp (d .answer) (omega (arith, e .count)); stands = e .stands }
 
   pub rounds-begun : Begun t
-  rounds-begun =
-      let k = ap (λ (v : Values). v .kind) (start-does l r hd ok .answer) in
-      record { by = start; links = l; rows = r; header = hd; unrefused = λ e. eqb-false 0 1 refl (cc); leaves = refl }
+  rounds-begun = start-begins l r hd ok
 
   pub rounds-within : (n : ℕ) → Within t (calls n)
   rounds-within n = calls-leave n .within

@@ -1,4 +1,5 @@
--- The season of specs/Season is a history, and the definitions say of it what they should. Proved by computation. Assumes nothing.
+-- The season of specs/Season is a history, and the definitions say of it what they should; and so of the damaged table of specs/Wet. Proved
+-- by computation. Assumes nothing.
 use mathlib.Core.Path.{refl}
 use borrow.Author.Tests.{eqb-false}
 use Rattle.rules.specs.Choice.{allBelow, someBelow, countBelow, alike}
@@ -15,11 +16,12 @@ use Rattle.rules.specs.Drain.{drainRule}
 use Rattle.rules.specs.Check.{endsTest, circleTest, soundTest, soundNumber, checkRule}
 use Rattle.rules.specs.Clear.{drainTimes, clearRule}
 use Rattle.rules.specs.Retain.{removeIf, removeChosen, retainNumber, retainRule}
-use Rattle.rules.specs.Rebuild.{rebuildNumber, rebuildRule}
+use Rattle.rules.specs.Rebuild.{wrongByte, rebuildNumber, rebuildRule}
 use Rattle.rules.specs.Bench.{lend}
 use Rattle.history.specs.Calls.{start}
 use Rattle.history.specs.Events.{allRemoved}
 use Rattle.history.specs.Season.{Told}
+use Rattle.history.specs.Wet.{Kept}
 
 tried : Told
 unfolding allBelow someBelow countBelow linkAt setLink newSlot rowAt setRow vacantAt occupiedAt unless _▸_ lentNumber headerNumber shapeNumber sideNumber zeroNumber liveKey liveNumber entryNumber sideEntryNumber startRule roomRule keyNumber lookRule lookStart replaceNumber replaceRule runNumber takeNumber insertNumber takeNew takeSlot takeLast takeBack shortened insertStep insertBy insertRule apartNumber leftNumber rightNumber removeNumber setApart joinRight joinLeft joinBoth freed removeStep removeBy removeSlot slotNumber removeAt removeRule pastFront isFront isBack frontOf hopNumber hopAnswer hopFrom hopRule drainRule endsTest circleTest soundTest soundNumber checkRule drainTimes clearRule removeIf removeChosen retainNumber retainRule rebuildNumber rebuildRule allRemoved alike
@@ -47,3 +49,7 @@ tried =
       lasting = refl;
       highest = refl;
     }
+
+kept : Kept
+unfolding allBelow someBelow countBelow linkAt vacantAt unless _▸_ lentNumber headerNumber shapeNumber sideNumber zeroNumber liveKey liveNumber entryNumber sideEntryNumber keyNumber lookRule replaceNumber replaceRule runNumber takeNumber insertNumber insertBy insertRule apartNumber leftNumber rightNumber removeNumber removeBy removeSlot removeRule pastFront isFront isBack frontOf endsTest circleTest soundTest soundNumber checkRule clearRule retainNumber retainRule wrongByte rebuildNumber rebuildRule
+kept = record { answered = refl; unchanged = refl; rows = refl }

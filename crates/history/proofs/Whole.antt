@@ -1,21 +1,23 @@
--- Calls one after another: the events of all of them, what the bystander has, and the slots in use. Assumes nothing.
-use mathlib.Core.Path.{_≡_, refl, sym, ap, _∙_, fun-ext}
+-- Calls one after another: the events of all of them, what the bystander has, and the slots in use; and so of a history. Assumes nothing.
+use mathlib.Core.Path.{_≡_, refl, sym, ap, _∙_, subst, fun-ext}
 use mathlib.Core.List.{List, [], _∷_, _++_, append-assoc}
 use Prim.Native.Nat.{suc, _+_, _≤_, max}
 use native.Mathlib.Omega.{arith}
 use Rattle.rules.specs.Runs.{oddCount}
+use Rattle.rules.specs.declared.Key.{Key}
 use Rattle.runs.specs.Machine.{Machine, liveOf}
 use Rattle.runs.specs.Steps.{lookOn}
 use Rattle.runs.proofs.Drained.{headed}
 use Rattle.runs.proofs.Accessed.{look-is}
 use Rattle.history.specs.Calls.{Call}
-use Rattle.history.specs.Histories.{Table, looked, next, after, answer, answers, Within}
+use Rattle.history.specs.Histories.{Table, looked, next, after, answer, answers, Within, History}
 use Rattle.history.specs.Bystander.{Book, reckoned}
-use Rattle.history.specs.Events.{Event, events, happening}
+use Rattle.history.specs.Events.{Event, removed, events, happening, happened}
 use Rattle.history.specs.Slots.{liveRows, vacantBelow, slots, most}
-use Rattle.history.proofs.Paths.{Path, join}
+use Rattle.history.proofs.Paths.{Path, join, parted}
 use Rattle.history.proofs.Counted.{some-vacant, vacant-counted}
 use Rattle.history.proofs.Reduced.{Stands, reduces}
+use Rattle.history.proofs.Beginnings.{begun}
 
 -- the counts of a table that is a machine, and what it answers
 module _ (t : Table) (m : Machine) (s : Stands t m) where
@@ -48,7 +50,7 @@ pub through : (t : Table) (m : Machine) → Stands t m → (cs : List Call) → 
 through t m s [] w =
     record { machine = m; stands = s; path = refl; has = refl; used = omega (arith, some-vacant m (headed _ _ _ m s), live-rows t m s) }
 through t m s (c ∷ cs) w =
-    let r = reduces t m s c .goes (w .0) in
+    let r = reduces t m s c (w .0) in
     let q = through (next t c) (r .machine) (r .stands) cs (w .1) in
     record {
       machine = q .machine;
@@ -72,3 +74,21 @@ events-follow t [] ds = refl
 events-follow t (c ∷ cs) ds =
     ap (λ (es : List Event). happening t c (answer t c) ++ es) (events-follow (next t c) cs ds)
     ∙ sym (append-assoc (happening t c (answer t c)) (events (next t c) cs) (events (after (next t c) cs) ds))
+
+-- of a history: the machine that its first table is, and where its calls have led
+module _ (h : History) where
+  abbrev pub opening : Machine
+  opening = begun (h .first) (h .begun) .0
+
+  pub opens : Stands (h .first) opening
+  opens = begun (h .first) (h .begun) .1
+
+  pub so-far : Through (h .first) opening (h .calls)
+  so-far = through (h .first) opening opens (h .calls) (h .within)
+
+-- a key k that was removed in it, by whatever call, with the events fs after that
+module _ (h : History) (es fs : List Event) (k : Key) (at : happened h ≡ es ++ removed k ∷ fs) where
+  pub removal : (x : Machine) × Path (opening h) es x × Path x (removed k ∷ fs) (so-far h .machine)
+  removal =
+      parted (opening h) es (removed k ∷ fs) (so-far h .machine)
+      (subst (λ (a : List Event). Path (opening h) a (so-far h .machine)) at (so-far h .path))

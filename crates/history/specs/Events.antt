@@ -8,7 +8,7 @@ use Rattle.rules.specs.Values.{Values}
 use Rattle.rules.specs.Retain.{struckBy}
 use Rattle.rules.specs.declared.Key.{Key}
 use Rattle.history.specs.Calls.{Call, begin, ask, insert, remove, write, replace, drain, clear, retain}
-use Rattle.history.specs.Histories.{Table, answer, next}
+use Rattle.history.specs.Histories.{Table, answer, next, History}
 use Rattle.history.specs.Bystander.{Book, sameKey, entered, struck, ifGiven, unlessRefused}
 
 pub data Event : Type 0 where
@@ -42,6 +42,9 @@ happening t (retain bytes) a = unlessRefused (a .kind) (chosenRemoved (struckBy 
 abbrev pub events : Table → List Call → List Event
 events t [] = []
 events t (c ∷ cs) = happening t c (answer t c) ++ events (next t c) cs
+
+abbrev pub happened : History → List Event
+happened h = events (h .first) (h .calls)
 
 -- the book after an event, and after all of them
 abbrev pub told : Event → Book → Book

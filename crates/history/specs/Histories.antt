@@ -68,3 +68,17 @@ GoesOn t (retain bytes) = Unit {0}
 abbrev pub Within : Table → List Call → Type 0
 Within t [] = Unit {0}
 Within t (c ∷ cs) = GoesOn t c × Within (next t c) cs
+
+-- a history: how it began, and calls of which none ends it
+pub record History : Type 0 where
+  pub first : Table
+  pub begun : Begun first
+  pub calls : List Call
+  pub within : Within first calls
+
+-- the table after its calls; the answers that were heard
+abbrev pub now : History → Table
+now h = after (h .first) (h .calls)
+
+abbrev pub heard : History → List Values
+heard h = answers (h .first) (h .calls)

@@ -4,6 +4,7 @@ pub mod Words
 pub mod Headers
 pub mod Values
 pub mod Refusals
+pub mod Given
 pub mod Start
 pub mod Access
 pub mod Insert

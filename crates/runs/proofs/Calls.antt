@@ -1,21 +1,19 @@
 -- The theorems, call by call: on a sound table each rule is the machine's step and leaves a sound table; which numbers it can give,
 -- never 2 among them; and two tables that are one machine answer alike and stay one machine, whatever stands inside their runs and
 -- in the links of occupied slots. Assumes nothing.
-use mathlib.Core.Path.{_≡_, refl, sym, _∙_, subst, fun-ext}
-use mathlib.Core.Logic.{_≢_}
+use mathlib.Core.Path.{_≡_, sym, _∙_, subst, fun-ext}
 use mathlib.Core.List.{List, [], _∷_}
-use mathlib.Core.Bool.{Bool, false}
+use mathlib.Core.Bool.{Bool}
 use Prim.Native.Nat.{ℕ}
 use lib.ListN.{length}
-use lib.Dec.{eqb}
-use borrow.Author.Tests.{eqb-false}
 use Rattle.rules.specs.Choice.{pick}
 use Rattle.rules.specs.Words.{versionAt, nextAt, prevAt, rowAt}
-use Rattle.rules.specs.Values.{Values, Outcome, unless}
-use Rattle.rules.specs.Refusals.{_▸_, shape, evenVersion, notLive, full, staleCursor, wrongPresence, zeroOccupied, lentNumber, shapeNumber, sideNumber}
+use Rattle.rules.specs.Values.{Values, Outcome}
+use Rattle.rules.specs.Refusals.{shape, evenVersion, notLive, full, staleCursor, shapeNumber, sideNumber}
+use Rattle.rules.specs.Given.{Only}
 use Rattle.rules.specs.Runs.{Front}
 use Rattle.rules.specs.Sound.{Sound}
-use Rattle.rules.specs.Start.{startRule, roomRule}
+use Rattle.rules.specs.Start.{roomRule}
 use Rattle.rules.specs.Access.{keyNumber, lookRule, replaceRule}
 use Rattle.rules.specs.Insert.{insertRule}
 use Rattle.rules.specs.Remove.{removeRule}
@@ -24,14 +22,14 @@ use Rattle.rules.specs.Drain.{drainRule}
 use Rattle.rules.specs.Check.{checkRule}
 use Rattle.rules.specs.Clear.{clearRule}
 use Rattle.rules.specs.Retain.{retainRule}
-use Rattle.rules.specs.Rebuild.{rebuildNumber, rebuildRule}
 use Rattle.rules.specs.declared.Header.{Header}
 use Rattle.rules.specs.declared.Key.{Key}
 use Rattle.rules.proofs.Choice.{by-pick}
+use Rattle.rules.proofs.Given.{chain-only}
 use Rattle.runs.specs.Machine.{Machine, machineOf}
 use Rattle.runs.specs.Steps.{Step, keyNumberOn, insertNumberOn, grownBy, filledBy, insertOn, removeOn, replaceOn, hopAnswerOn, hopOn, drainOn}
 use Rattle.runs.specs.WholeTable.{clearOn, retainOn, checkOn, roomOn}
-use Rattle.runs.specs.Tables.{Shows, Simulates, oneOf, Only, GivesOnly, SameAnswer}
+use Rattle.runs.specs.Tables.{Shows, Simulates, GivesOnly, SameAnswer}
 use Rattle.runs.proofs.Segments.{seg-agree}
 use Rattle.runs.proofs.Sound.{linked, off-zero}
 use Rattle.runs.proofs.Shown.{header-is}
@@ -115,23 +113,10 @@ module _ (l r l′ r′ : List ℕ) (hd : Header) (s : Sound l hd) (t : Sound l�
       one-answer call step sim l r l′ r′ hd hd m (checked-shows l r hd e s)
       (subst (Shows l′ r′ hd) (sym same-machine) (checked-shows l′ r′ hd e′ t))
 
--- the numbers that each call can give; any other is never given
-pub never : (ks : List ℕ) (n bad : ℕ) → Only ks n → oneOf (0 ∷ ks) bad ≡ false → n ≢ bad
-never ks n bad h f e = eqb-false 0 1 refl (cc)
-
--- a chain gives what it names; a choice of steps, and a call behind its number, what either gives
-chain-only : (ks : List ℕ) (n k : ℕ) (t : Bool) → Only ks n → Only ks k → Only ks (n ▸ (t, k))
-unfolding _▸_
-chain-only ks n k t h j = by-pick (Only ks) (eqb n 0) _ _ (λ _. by-pick (Only ks) t k 0 (λ _. j) (λ _. record { listed = refl })) (λ _. h)
-
+-- the numbers that each call can give there: what the machine's step gives. A choice of steps gives what either gives
 step-only : (ks : List ℕ) (t : Bool) (s s′ : Step) → Only ks (s .answer .number) → Only ks (s′ .answer .number) → Only ks (pick t s s′ .answer .number)
 step-only ks t s s′ h j = by-pick (λ (x : Step). Only ks (x .answer .number)) t s s′ (λ _. h) (λ _. j)
 
-pub unless-only : (ks l r : List ℕ) (hd : Header) (n : ℕ) (o : Outcome) → Only ks n → Only ks (o .answer .number) → Only ks (unless l r hd n o .answer .number)
-unfolding unless
-unless-only ks l r hd n o h j = by-pick (λ (x : Outcome). Only ks (x .answer .number)) (eqb n 0) _ _ (λ _. j) (λ _. h)
-
--- a call gives what the machine's step gives
 only : (ks : List ℕ) (call : List ℕ → List ℕ → Header → Outcome) (step : Machine → Step) → Simulates call step →
     ((m : Machine) → Only ks (step m .answer .number)) → GivesOnly ks call
 only ks call step sim h l r hd e s =
@@ -177,13 +162,3 @@ unfolding keyNumberOn
 key-number-only l r hd e s k =
     let m = machineOf l r hd (s .circle .after) in
     subst (Only (evenVersion ∷ notLive ∷ [])) (sym (key-number-is l r hd m (checked-shows l r hd e s) k)) (search chain-only)
-
--- start and rebuild, on any words
-pub start-only : (l r : List ℕ) (hd : Header) → Only (shape ∷ []) (startRule l r hd .answer .number)
-unfolding startRule lentNumber
-start-only l r hd = search (unless-only, chain-only) depth 8
-
-pub rebuild-only : (l r : List ℕ) (hd : Header) (bytes : List ℕ) →
-    Only (shape ∷ wrongPresence ∷ zeroOccupied ∷ []) (rebuildRule l r hd bytes .answer .number)
-unfolding rebuildRule rebuildNumber lentNumber
-rebuild-only l r hd bytes = search (unless-only, chain-only) depth 12

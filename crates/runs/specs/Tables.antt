@@ -1,13 +1,11 @@
 -- A table of words and the machine that it is; a call of the rules and the machine's step that it is; which numbers a call can give.
 use Prim.Native.Nat.{ℕ, _<_, _%_}
-use mathlib.Core.List.{List, [], _∷_}
-use mathlib.Core.Bool.{Bool, true, false}
+use mathlib.Core.List.{List}
 use mathlib.Core.Path.{_≡_}
-use lib.Dec.{eqb}
-use Rattle.rules.specs.Choice.{either}
 use Rattle.rules.specs.Words.{versionAt}
 use Rattle.rules.specs.Values.{Outcome}
 use Rattle.rules.specs.Refusals.{shapeNumber}
+use Rattle.rules.specs.Given.{Only}
 use Rattle.rules.specs.Sound.{Sound}
 use Rattle.rules.specs.declared.Header.{Header}
 use Rattle.runs.specs.Machine.{Machine, machineOf}
@@ -32,14 +30,6 @@ pub record Does (o : Outcome) (s : Step) : Type 0 where
 -- on every sound table of the right shape the call is the step
 abbrev pub Simulates : (List ℕ → List ℕ → Header → Outcome) → (Machine → Step) → Type 0
 Simulates call step = (l r : List ℕ) (hd : Header) (m : Machine) → Shows l r hd m → Does (call l r hd) (step m)
-
--- the number is one of these; it is 0, which is no refusal, or one of these
-abbrev pub oneOf : List ℕ → ℕ → Bool
-oneOf [] n = false
-oneOf (k ∷ ks) n = either (eqb n k) (oneOf ks n)
-
-pub record Only (ks : List ℕ) (n : ℕ) : Type 0 where
-  pub listed : oneOf (0 ∷ ks) n ≡ true
 
 -- on every sound table of the right shape the call gives no other numbers than these
 abbrev pub GivesOnly : List ℕ → (List ℕ → List ℕ → Header → Outcome) → Type 0

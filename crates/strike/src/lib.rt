@@ -36,6 +36,7 @@ fn strike_out(links: &mut [u32], rows: &mut [u32], struck: Struck, bytes: &[u8],
         return struck;
     }
     let before = struck.header;
+    // Its answer is not looked at: past retain's check no removal is refused (retain-removes in runs/proofs/Chosen).
     let gone = remove_at(links, rows, before, i);
     let header = gone.header;
     Struck {
