@@ -1,20 +1,23 @@
--- The course of the stream turn by turn: a step of a walk, a byte heard, and nothing after the end. Assumes nothing.
+-- The course of the stream turn by turn: a step of a walk, a byte heard, what ends the run, and nothing after the end. Assumes nothing.
 use Prim.Native.Nat.{ℕ}
 use mathlib.Core.List.{List, [], _∷_, _++_, append-assoc}
 use mathlib.Core.Bool.{false}
 use mathlib.Core.Path.{_≡_, refl, sym, ap, _∙_}
 use mathlib.Core.Logic.{_≢_}
 use borrow.Author.Tests.{eqb-false}
+use Rattle.rules.specs.Refusals.{brokenStream}
 use Rattle.rules.specs.Values.{Kind, gives, ends, refuses, Outcome}
 use Rattle.history.specs.Calls.{ask, hop}
 use Rattle.history.specs.Histories.{outcome}
+use Rattle.wire.specs.Commands.{commandOf}
 use Rattle.wire.specs.declared.Command.{Command}
 use Rattle.wire.specs.declared.Saying.{Saying}
 use Rattle.wire.specs.Replies.{sayingBytes}
+use Rattle.wire.proofs.FiveKinds.{no-other-kind}
 use Rattle.commands.specs.Turns.{Run, tableOf, calm, walkBy, walkTurn, commandTurn}
 use Rattle.commands.specs.declared.Phase.{Phase}
 use Rattle.stream.specs.Feeding.{replyOf}
-use Rattle.hearing.specs.Heard.{walksIn, heardIn, heard}
+use Rattle.hearing.specs.Heard.{gathered, walksIn, heardIn, heard}
 use Rattle.course.specs.Course.{Course, standing, preceded, walkedOut, course}
 use Rattle.course.proofs.Walks.{walked-out-still, walked-out-step}
 
@@ -62,6 +65,20 @@ ended-course s e (b ∷ bs) =
     let silent = calm s Phase.Ended Saying.Silent in
     byte-first s (ap walksIn e) b bs
     ∙ rw (unheard s e b) (ended-course (silent .run) refl bs ∙ ap standing (calm-same s Phase.Ended e Saying.Silent))
+
+-- a byte that is no kind, where a kind is due: 132 with 9 is replied, the run has ended with its tables as they were, and nothing after is heard
+unknown-heard : (s : Run) → s .stream .phase ≡ Phase.Between → (b : ℕ) → commandOf b ≡ Command.Unknown →
+    heard s b ≡ calm s Phase.Ended (Saying.Refused brokenStream)
+unfolding heard
+unknown-heard s e b u = ap (λ (p : Phase). heardIn p s b) e ∙ ap (λ (k : Command). gathered k 0 s) u
+
+pub no-kind-ends : (s : Run) → s .stream .phase ≡ Phase.Between → (b : ℕ) → b ≢ 1 → b ≢ 2 → b ≢ 3 → b ≢ 4 → b ≢ 5 → (bs : List ℕ) →
+    course s (b ∷ bs) ≡ record { run = calm s Phase.Ended Saying.Silent .run; said = 132 ∷ 9 ∷ [] }
+unfolding sayingBytes
+no-kind-ends s e b n1 n2 n3 n4 n5 bs =
+    let ended = calm s Phase.Ended Saying.Silent .run in
+    byte-first s (ap walksIn e) b bs
+    ∙ rw (unknown-heard s e b (no-other-kind b n1 n2 n3 n4 n5)) (ap (preceded (132 ∷ 9 ∷ [])) (ended-course ended refl bs))
 
 -- no command but an unknown one ends the run, whatever its call answered; and no step of a walk does
 pub command-goes-on : (k : Command) (s : Run) → k ≢ Command.Unknown → commandTurn k s .run .stream .phase ≢ Phase.Ended

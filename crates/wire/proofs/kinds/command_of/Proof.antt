@@ -1,4 +1,4 @@
--- `wire::kinds::command_of` meets its contract: at each single byte by the byte, at the rest by the five that it is not. Assumes nothing.
+-- `wire::kinds::command_of` meets its contract: at each single byte by the byte, at the rest by the six that it is not. Assumes nothing.
 use borrow.Author.Tests.{ne-eqb}
 use Rattle.wire.specs.Commands.{commandOf}
 use Rattle.wire.proofs.kinds.command_of.Statement.{statement}
@@ -31,8 +31,14 @@ returns-6 c = rw (c .match .keys6)
 returns-7 : tie.Need-returns-7
 unfolding commandOf
 returns-7 c =
-    let rest = c .match .rest .0 in
-    simp (ne-eqb _ _ (rest .0 .0 .0 .0 .1), ne-eqb _ _ (rest .0 .0 .0 .1), ne-eqb _ _ (rest .0 .0 .1), ne-eqb _ _ (rest .0 .1), ne-eqb _ _ (rest .1))
+    let rest = c .match .rest in
+    let n1 = rest .0 .0 .0 .0 .0 .1 in
+    let n2 = rest .0 .0 .0 .0 .1 in
+    let n3 = rest .0 .0 .0 .1 in
+    let n4 = rest .0 .0 .1 in
+    let n5 = rest .0 .1 in
+    let n6 = rest .1 in
+    simp ne-eqb
 
 pub command-of-spec : {M : Type 1} → statement M
 command-of-spec = tie.close (tie.spec returns returns-2 returns-3 returns-4 returns-5 returns-6 returns-7)
