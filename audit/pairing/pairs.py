@@ -3,11 +3,13 @@
     # what it gets wrong
     # differs at: where that shows
     prove: CRATE              (where the code's own crate is not the one whose proof is to be asked)
+    code alone: WHY           (where no rule is bent, since no contract can say what the changed code does otherwise)
     file: crates/..           holds for the places after it
     old: ..                   stands in the file once
     more: ..                  one more line of the old or the new text
     new: ..                   what stands there instead; nothing: the line goes
-The proof of an own law of the rules that names the bent place may be mended with it, so that what stands above can be asked.
+The proof of an own law of the rules that names the bent place may be mended with it, so that what stands above can be asked. Of code alone the
+proof of its own crate may be: what is asked is whether the prover lets that code pass, not whether it knows it.
 """
 import dataclasses
 import pathlib
@@ -27,6 +29,7 @@ class Pair:
     wrong: str = ""
     differs: str = ""
     prove: str = ""
+    alone: str = ""
     edits: list = dataclasses.field(default_factory=list)  # of [file, old, new]
 
     def crates(self):
@@ -48,6 +51,8 @@ def read(path):
             pair.wrong = pair.wrong or line[2:]
         elif word == "prove":
             pair.prove = rest
+        elif word == "code alone":
+            pair.alone = rest
         elif word == "file":
             file = rest
         elif word == "old":
@@ -66,13 +71,30 @@ def read(path):
 
 def _look(pair):
     files = [file for file, _, _ in pair.edits]
+    fault = _alone_fault(files) if pair.alone else _both_fault(files)
+    if fault:
+        raise Bad(f"{pair.name}: {fault}")
+    if not pair.wrong or not pair.differs:
+        raise Bad(f"{pair.name}: it does not say what is wrong, or where that shows")
+
+
+def _both_fault(files):
     rules = [file for file in files if file.startswith("crates/rules/specs/")]
     code = [file for file in files if file.startswith("crates/") and "/src/" in file]
     laws = [file for file in files if file.startswith("crates/rules/proofs/")]
     if not rules or not code or len(rules) + len(code) + len(laws) < len(files):
-        raise Bad(f"{pair.name}: it changes rules and code, both, and nothing else but proofs of the rules' own laws")
-    if not pair.wrong or not pair.differs:
-        raise Bad(f"{pair.name}: it does not say what is wrong, or where that shows")
+        return "it changes rules and code, both, and nothing else but proofs of the rules' own laws"
+    return ""
+
+
+def _alone_fault(files):
+    """One crate, not the rules; its code, and nothing else of it but proofs."""
+    parts = {tuple(file.split("/")[:3]) for file in files}
+    crates = {crate for _, crate, _ in parts}
+    kinds = {kind for _, _, kind in parts}
+    if len(crates) != 1 or crates == {"rules"} or "src" not in kinds or kinds - {"src", "proofs"}:
+        return "code alone is that of one crate, not the rules, and nothing else of it but its proofs"
+    return ""
 
 
 def apply(pair, root):

@@ -6,6 +6,7 @@
 
 #include <stdio.h>
 #include <stdlib.h>
+#include <string.h>
 
 /* Eight slots are lent, unless a fault says otherwise; there is room for one more than may ever be lent. */
 #define SLOTS 8u
@@ -154,7 +155,7 @@ static struct hop_answer call_sound(void)
     return hop_sound(LENT);
 }
 
-/* hop_row answers a pointer, and hop_key_number tells the number where it is null. */
+/* hop_row answers a pointer, and hop_key_number tells the number where it is null. It changes no word, refused or not. */
 static struct hop_answer call_row(void)
 {
     struct hop_answer answer = hop_key_number(LENT, KEY);
@@ -162,6 +163,9 @@ static struct hop_answer call_row(void)
 
     if (row != (answer.kind == HOP_DONE ? given.rows + given.key.index * HOP_ROW_WORDS : NULL)) {
         wrong("row", "another pointer");
+    }
+    if (memcmp(&given, &before, sizeof given) != 0) {
+        wrong("row", "a word changed");
     }
     return answer;
 }

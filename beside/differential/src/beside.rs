@@ -139,6 +139,7 @@ impl Beside {
         }
         let full = matches!(call, Call::Insert(_)) && self.live() + 1 == self.lent();
         let unchanged = full.then(|| self.tables.clone());
+        let unwritten = matches!(call, Call::Write(..)).then(|| self.tables.clone());
         let ours = self.with_map(|map| by_port(map, call))?.map_err(|refusal| format!("refused: {refusal}"))?;
         if let Some(unchanged) = unchanged {
             same("a full table", &ours, &Answer::Full)?;
@@ -146,6 +147,12 @@ impl Beside {
             tally.add(Kind::Full, 1);
         } else {
             same("answer", &ours, &self.originals.make(call)?)?;
+        }
+        if let (Call::Write((slot, _), row), Some(mut wanted)) = (call, unwritten) {
+            if matches!(ours, Answer::Written(true)) {
+                wanted.lent().1[*slot as usize * ROW_WORDS..][..ROW_WORDS].copy_from_slice(row);
+            }
+            holds("a write through a key changed a word outside its row", self.tables == wanted)?;
         }
         match ours {
             Answer::Inserted(key) => self.keys.push(key),

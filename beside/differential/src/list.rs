@@ -87,6 +87,24 @@ impl Player {
         show_told(&(0..self.header.used as usize).map(slot).collect::<Vec<_>>())
     }
 
+    /// A look to write through. Every word outside the row must be as it was, and where it is refused every word.
+    fn look_mut(&mut self, key: Key, first: u32) -> Result<String, String> {
+        let mut wanted = self.tables.clone();
+        let answer = self.tables.calls().key_number(self.header, key);
+        let (links, rows) = self.tables.lent();
+        let mut map = HopSlotMap::with_header(links, rows, self.header).map_err(|refusal| refusal.to_string())?;
+        if let Some(row) = map.get_mut(key) {
+            row.copy_from_slice(&from(first, ROW_WORDS));
+        }
+        if answer.kind == calls::DONE {
+            wanted.lent().1[key.index as usize * ROW_WORDS..][..ROW_WORDS].copy_from_slice(&from(first, ROW_WORDS));
+        }
+        if self.tables != wanted {
+            return Err("look_mut changed a word outside its row, or not that row".to_string());
+        }
+        Ok(told("look_mut", &answer))
+    }
+
     /// Makes a call; where it is refused, every word and the header must be as they were.
     fn call(&mut self, name: &str, numbers: &[u32]) -> Result<String, String> {
         let (before, header) = (self.tables.clone(), self.header);
@@ -98,14 +116,7 @@ impl Player {
             ("room", []) => lent.room(header),
             ("key_number", [index, version]) => lent.key_number(header, key(index, version)),
             ("look", [index, version]) => lent.look(header, key(index, version)),
-            ("look_mut", [index, version, first]) => {
-                let (links, rows) = self.tables.lent();
-                let mut map = HopSlotMap::with_header(links, rows, header).map_err(|refusal| refusal.to_string())?;
-                if let Some(row) = map.get_mut(key(index, version)) {
-                    row.copy_from_slice(&from(*first, ROW_WORDS));
-                }
-                self.tables.calls().key_number(header, key(index, version))
-            }
+            ("look_mut", [index, version, first]) => return self.look_mut(key(index, version), *first),
             ("replace", [index, version, first, words]) => lent.replace(header, key(index, version), &from(*first, *words as usize)),
             ("insert", [first, words]) => lent.insert(header, &from(*first, *words as usize)),
             ("remove", [index, version]) => lent.remove(header, key(index, version)),

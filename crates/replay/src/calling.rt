@@ -1,6 +1,7 @@
 // The calls of the face `hop`, each under its line's first word, on what is lent. Each has one flat answer.
 ghost use mathlib.Core.Path.{_≡_};
 ghost use lib.ListN.{length};
+use crate::ROWS;
 use crate::language::CLEAR;
 use crate::language::DRAIN_STEP;
 use crate::language::HOP_STEP;
@@ -16,12 +17,15 @@ use crate::language::RETAIN;
 use crate::language::ROOM;
 use crate::language::SOUND;
 use crate::language::START;
+use crate::settings::set_row;
+use crate::words::alike;
 use crate::words::fill;
 use crate::words::least;
 use crate::words::low_bytes;
 use crate::words::store;
 use crate::words::word_at;
 use flat::Answer;
+use hop::CountAnswer;
 use hop::Header;
 use hop::Key;
 use hop::KeyAnswer;
@@ -72,6 +76,21 @@ fn written(links: &[u32], rows: &mut [u32], header: Header, key: Key, numbers: &
     }
     fill(part, word_at(numbers, 2), 1);
     flat::of_number(0, header)
+}
+
+// The same, and where it leaves another table than the one that was lent, with that row written where it is not refused, an answer that no list
+// has: what the table holds after look_mut is in no contract (docs/EXCEPTIONS.md). The links are lent to read.
+fn watched(links: &[u32], rows: &mut [u32], header: Header, key: Key, numbers: &[u32]) -> Answer {
+    let mut wanted = [0u32; ROWS];
+    store(&mut wanted, 0, rows);
+    let x = written(links, rows, header, key, numbers);
+    if x.kind == flat::DONE {
+        set_row(&mut wanted, key.index, word_at(numbers, 2));
+    }
+    if alike(rows, &wanted) {
+        return x;
+    }
+    flat::of_count(CountAnswer::Counted(0), header)
 }
 
 // The side buffer is made of the last two numbers.
@@ -179,7 +198,7 @@ pub(crate) fn called(
 {
     let key = key_of(numbers);
     match command {
-        LOOK_MUT => written(links, rows, header, key, numbers),
+        LOOK_MUT => watched(links, rows, header, key, numbers),
         REPLACE => replaced(links, rows, header, key, numbers),
         START..=CLEAR => changing(links, rows, header, command, key),
         RETAIN | REBUILD => by_numbers(links, rows, header, command, numbers),

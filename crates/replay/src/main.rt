@@ -28,7 +28,7 @@ use words::least;
 // The words of both tables, one slot more than may be lent; the bytes of the whole list and of one answered line.
 const LINKS: usize = 16388;
 
-const ROWS: usize = 32776;
+pub(crate) const ROWS: usize = 32776;
 
 const LIST: usize = 1048576;
 

@@ -3,6 +3,7 @@ ghost use Prim.Native.Nat.{_≤_};
 ghost use lib.ListN.{length};
 use crate::language::HOP_STEP;
 use crate::language::INSERT;
+use crate::language::LOOK_MUT;
 use crate::language::RETAIN;
 use crate::language::ROOM;
 use crate::language::SHOW;
@@ -137,6 +138,12 @@ fn form_of_answer(command: u32) -> Form {
             n: 3,
             row: 0,
         },
+        LOOK_MUT => Form {
+            name: 6,
+            from: 0,
+            n: 0,
+            row: 0,
+        },
         _ => Form {
             name: 5,
             from: 2,
@@ -184,7 +191,14 @@ fn put_outcome(out: &mut [u8], at: usize, command: u32, x: Answer) -> usize
     let key = x.key;
     let row = x.row;
     let words = [x.number, x.count, key.index, key.version, x.cursor];
-    let named = put(out, at, nth(b"done refused count key visit row", form.name));
+    let named = put(
+        out,
+        at,
+        nth(
+            b"done refused count key visit row wrote_elsewhere",
+            form.name,
+        ),
+    );
     let told = put_words(out, named, part(&words, form.from, form.n));
     put_row(out, told, row, form.row)
 }

@@ -1,7 +1,8 @@
-// Words of a table, and the numbers of a line: read, laid out, copied. Each function is total: what is past an end is 0, or is dropped.
+// Words of a table, and the numbers of a line: read, laid out, copied, compared. Each function is total: what is past an end is 0, or is dropped.
 ghost use mathlib.Core.Path.{_≡_};
 ghost use Prim.Native.Nat.{_≤_};
 ghost use lib.ListN.{length, getD};
+use crate::ROWS;
 
 // The smaller of two counts.
 pub(crate) fn least(a: usize, b: usize) -> usize
@@ -54,6 +55,18 @@ pub(crate) fn store(table: &mut [u32], first: usize, words: &[u32])
         at += 1;
         i += 1;
     }
+}
+
+// Whether each word is the other table's at its place.
+pub(crate) fn alike(words: &[u32], others: &[u32; ROWS]) -> bool {
+    let mut i = 0;
+    while i < words.len() {
+        if words[i] != word_at(others, i) {
+            return false;
+        }
+        i += 1;
+    }
+    true
 }
 
 // The low byte of each number; answers how many bytes there are.
