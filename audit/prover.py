@@ -1,4 +1,5 @@
-"""A scratch copy of the repository in which mutants are given to the prover, one at a time."""
+"""A scratch copy of the repository in which wrong programs are given to the prover, one at a time: the mutants of audit/code, the must-fail edits of
+tests/edits."""
 import os
 import pathlib
 import re
@@ -17,22 +18,36 @@ class Room:
     """The crates without their must-fail edits, and what is proved already, so that only the crate at hand is checked."""
 
     def __init__(self, root, folder):
-        self.folder = pathlib.Path(folder)
+        self.root, self.folder = pathlib.Path(root), pathlib.Path(folder)
         self.folder.mkdir(parents=True)
-        shutil.copy(root / "crates.txt", self.folder)
-        shutil.copytree(root / "crates", self.folder / "crates", ignore=shutil.ignore_patterns("must-fail"))
+        shutil.copy(self.root / "crates.txt", self.folder)
+        for crate in (self.root / "crates").iterdir():
+            self.renew(crate.name)
         for part in ("rlib", "stamp"):
-            if (root / "target" / part).is_dir():
-                shutil.copytree(root / "target" / part, self.folder / "target" / part)
+            if (self.root / "target" / part).is_dir():
+                shutil.copytree(self.root / "target" / part, self.folder / "target" / part)
+        self.build = name_of_build(self.folder / "nothing")
+        self.kept = self.folder / "target/kept"
+
+    def crate(self, crate):
+        return self.folder / "crates" / crate
+
+    def renew(self, crate):
+        """The crate as it stands, whatever was done to the copy."""
+        shutil.rmtree(self.crate(crate), ignore_errors=True)
+        shutil.copytree(self.root / "crates" / crate, self.crate(crate), symlinks=True, ignore=shutil.ignore_patterns("must-fail"))
 
     def begin(self, crate):
-        """Checks the crate as it stands. What is kept of that check is what each mutant's check starts from."""
+        """Checks the crate as it stands, over what the gate's check of it left. What is kept of this check is what each later one starts from."""
+        shutil.rmtree(self.inc(crate), ignore_errors=True)
+        left = self.folder / f"target/rlib/{crate}.rlib/toolchain/checked"
+        if self.build and left.is_dir():
+            shutil.copytree(left, self.inc(crate) / self.build)
         status, log = self.check(crate)
-        if status != 0:
-            raise SystemExit(f"{crate} is not proved as it stands:\n{log}")
-        self.kept = self.folder / "target/kept"
         shutil.rmtree(self.kept, ignore_errors=True)
-        shutil.copytree(self.inc(crate), self.kept)
+        if self.inc(crate).is_dir():
+            shutil.copytree(self.inc(crate), self.kept)
+        return judged(status, log), log
 
     def inc(self, crate):
         return self.folder / "target/inc" / crate
@@ -57,18 +72,35 @@ class Room:
         began = time.monotonic()
         path.write_text(mutant.apply(text), encoding="utf-8")
         result, log = self.judge(crate, fresh)
-        if result == SURVIVES and not fresh:
-            result, log = self.judge(crate, True)
         path.write_text(text, encoding="utf-8")
         return result, log, time.monotonic() - began
 
     def judge(self, crate, fresh):
-        """One check: over what was kept of the crate as it stands, or fresh, over nothing."""
+        """What the prover makes of the crate as the room has it: over what was kept, and where that passes once more from nothing; or fresh, from
+        nothing alone."""
+        result, log = (None, "") if fresh else self.over_kept(crate)
+        if result in (None, SURVIVES):
+            shutil.rmtree(self.inc(crate), ignore_errors=True)
+            status, log = self.check(crate)
+            result = judged(status, log)
+        return result, log
+
+    def over_kept(self, crate):
+        """One check, over a copy of what was kept of the crate as it stands."""
         shutil.rmtree(self.inc(crate), ignore_errors=True)
-        if not fresh:
-            shutil.copytree(self.kept, self.inc(crate))
+        shutil.copytree(self.kept, self.inc(crate))
         status, log = self.check(crate)
         return judged(status, log), log
+
+
+def name_of_build(folder):
+    """The name of the folder in which this build of the toolchain keeps what it checked, by a check of a crate with nothing in it; where it has none,
+    each crate is checked from nothing first."""
+    (folder / "crates/nothing/src").mkdir(parents=True)
+    (folder / "crates.txt").write_text("nothing:\n", encoding="utf-8")
+    (folder / "crates/nothing/src/lib.rt").touch()
+    subprocess.run(["rt", "dev", "nothing"], cwd=folder, stdout=subprocess.DEVNULL, stderr=subprocess.DEVNULL)
+    return next((path.name for path in folder.glob("target/inc/nothing/*")), None)
 
 
 def judged(status, log):
