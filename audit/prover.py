@@ -15,7 +15,7 @@ LONGEST = 600  # seconds for one check
 
 
 class Room:
-    """The crates without their must-fail edits, and what is proved already, so that only the crate at hand is checked."""
+    """The crates without their must-fail edits, and what the repository has proved of them, so that only the crate at hand is checked."""
 
     def __init__(self, root, folder):
         self.root, self.folder = pathlib.Path(root), pathlib.Path(folder)
@@ -23,11 +23,19 @@ class Room:
         shutil.copy(self.root / "crates.txt", self.folder)
         for crate in (self.root / "crates").iterdir():
             self.renew(crate.name)
-        for part in ("rlib", "stamp"):
-            if (self.root / "target" / part).is_dir():
-                shutil.copytree(self.root / "target" / part, self.folder / "target" / part)
         self.build = name_of_build(self.folder / "nothing")
         self.kept = self.folder / "target/kept"
+
+    def fetch(self):
+        """What the repository has proved by now: a crate has its stamp once its library is written. The files of a library are linked: the toolchain
+        makes a library anew, and writes into none that is there."""
+        (self.folder / "target/stamp").mkdir(parents=True, exist_ok=True)
+        for stamp in (self.root / "target/stamp").glob("*"):
+            here, library = self.folder / "target/stamp" / stamp.name, f"target/rlib/{stamp.name}.rlib"
+            if not here.exists() and stamp.stat().st_size:
+                if (self.root / library).is_dir():
+                    shutil.copytree(self.root / library, self.folder / library, copy_function=os.link)
+                shutil.copy(stamp, here)
 
     def crate(self, crate):
         return self.folder / "crates" / crate
@@ -39,6 +47,7 @@ class Room:
 
     def begin(self, crate):
         """Checks the crate as it stands, over what the gate's check of it left. What is kept of this check is what each later one starts from."""
+        self.fetch()
         shutil.rmtree(self.inc(crate), ignore_errors=True)
         left = self.folder / f"target/rlib/{crate}.rlib/toolchain/checked"
         if self.build and left.is_dir():
