@@ -25,7 +25,9 @@ pub(crate) struct State {
 }
 
 // A row becomes the word and those after it.
-pub(crate) fn set_row(rows: &mut [u32], slot: u32, word: u32) {
+pub(crate) fn set_row(rows: &mut [u32], slot: u32, word: u32)
+    ensures { λ _. ⌜ length (now (rows .exit)) ≡ length (now (rows .entry)) ⌝ }
+{
     let mut row = [0u32; ROW_WORDS];
     fill(&mut row, word, 1);
     store(rows, slot as usize * ROW_WORDS, &row);

@@ -2,6 +2,8 @@
 ghost use mathlib.Core.Path.{_≡_};
 ghost use Prim.Native.Nat.{_≤_};
 ghost use lib.ListN.{length, getD};
+ghost use lib.Dec.{eqb};
+ghost use Rattle.rules.specs.Choice.{allBelow};
 use crate::ROWS;
 
 // The smaller of two counts.
@@ -58,10 +60,12 @@ pub(crate) fn store(table: &mut [u32], first: usize, words: &[u32])
 }
 
 // Whether each word is the other table's at its place.
-pub(crate) fn alike(words: &[u32], others: &[u32; ROWS]) -> bool {
+pub(crate) fn alike(words: &[u32], others: &[u32; ROWS]) -> bool
+    ensures { λ r. ⌜ r ≡ allBelow (length (now (words .entry))) (λ i. eqb (getD (now (words .entry)) i 0) (getD (now (others .entry)) i 0)) ⌝ }
+{
     let mut i = 0;
     while i < words.len() {
-        if words[i] != word_at(others, i) {
+        if word_at(words, i) != word_at(others, i) {
             return false;
         }
         i += 1;
