@@ -1,10 +1,15 @@
 -- The customer's demands 1 and 3 as statements, to be read top down beside the work order; proofs/Demands has a term of each record.
 -- Demand 2 is the rules themselves and the runs beside the original.
 --
--- What the statements speak of, in the order to read it: the rule of each call is in rules/specs, of which a key that is live, the numbers
--- and what a refusal is are in Refusals, Given and Values, a sound table in Sound; here in specs: every public call (Calls), what a history
--- is (Histories), which numbers a call may give and when a table is full (Refusals), the bystander (Bystander), what happens in a call and
--- how many removals a slot sees (Events), how many removals make a round (Versions), and the slots that are counted (Slots).
+-- What they speak of, to be read next, in this order; there is nothing else behind them:
+--   rules/specs   the rule of each call, and what it is made of; Given, one of these numbers; Runs and Sound, a sound table
+--   Calls         every public call, and its rule
+--   Histories     a table, what a call answers and leaves; Refused, Begun, GoesOn, Within, History
+--   Bystander     what is reckoned from calls and answers alone: live-keys
+--   Events        what happens in a call, and how many removals a slot sees: events-tell, dead
+--   Versions      how many removals make a round: dead
+--   Slots         live rows, vacant slots, the most rows ever live: slots-law, no-slot-lost, none-added
+--   Refusals      givenBy and noRow: demand 1; Numbers and Full, which is said with NoneVacant of runs/specs/Tables: numbers
 use Prim.Native.Nat.{ℕ, _≤_, _<_, max}
 use mathlib.Core.List.{List, _∷_, _++_}
 use mathlib.Core.Bool.{true}
