@@ -45,8 +45,11 @@ def declared(text):
                 yield head[1] or head[2], False
         else:
             field = re.match(r"\s+pub\s+([^\s:]+)\s*:\s", line) or (data and re.match(r"\s+([^\s:]+)\s*:\s", line))
+            inner = re.match(r"\s+([a-z][\w'-]*-[\w'-]+)\s*:\s", line)
             if field:
                 yield field[1], True
+            elif inner:
+                yield inner[1], False
 
 
 def snake(name):

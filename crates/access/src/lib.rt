@@ -1,4 +1,6 @@
 // Row access: a look at a live key, to read or to write through or by value, and replace.
+#![tactic(auto)]
+
 mod place;
 mod reading;
 mod replacing;

@@ -1,4 +1,6 @@
 // Clear: the whole soundness check, then the drain step to the end. hop.rs 647-649 and 1157-1161
+#![tactic(auto)]
+
 ghost use Rattle.std.specs.Prelude.{◌≡◌, ◌+◌};
 ghost use Rattle.rules.specs.Values.{plain, done, drained, cleared};
 ghost use Rattle.rules.specs.Clear.{drain_times, clear_rule};

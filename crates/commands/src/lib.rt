@@ -1,4 +1,6 @@
 // The commands of the stream: what each does over the map, and what is said of it.
+#![tactic(auto)]
+
 mod saying;
 mod turns;
 

@@ -38,9 +38,9 @@ module _ (s : Run) (input out : List ℕ) where
   abbrev Room : Feeding → Type 0
   Room f = (length f.out ≡ length out) × (f.written ≤ length out)
 
-  whole-within : Room (fed_whole input (begun s out))
+  whole_within : Room (fed_whole input (begun s out))
   unfolding fed_whole
-  whole-within =
+  whole_within =
       kept (going (length input)) (fed_once input) Room
       (λ f _ h. (turn_length input f ∙ h.0, subst (λ (n : ℕ). (fed_once input f).written ≤ n) h.0 (once_within input f (omega (arith, h.0, h.1)))))
       (length input + length out) (begun s out) (refl, omega arith)
@@ -51,7 +51,7 @@ unfolding feed_rule
 feed_within s input out p e =
     subst (λ (q : Piece). (q.taken ≤ length input) × (q.written ≤ length q.out)) (sym e)
     (by_pick (λ (q : Piece). (q.taken ≤ length input) × (q.written ≤ length q.out)) (eqb (feed_number s.links s.rows s.stream (length out)) 0) _ _
-    (λ _. ((whole_fed s input out).within, omega (arith, (whole-within s input out).0, (whole-within s input out).1)))
+    (λ _. ((whole_fed s input out).within, omega (arith, (whole_within s input out).0, (whole_within s input out).1)))
     (λ _. (omega arith, omega arith)))
 
 -- and so does the end of the input

@@ -39,10 +39,10 @@ module _ (s : Run) (input : List ℕ) where
 
   -- a turn that takes these bytes, and is what comes first of them
   module _ (f : Feeding) (fed : SoFar f) (room : fits (length f.out) f.written ≡ true) where
-    turn-fed : (taken : ℕ) (bytes : List ℕ) (t : Turned) → taken ≤ length input →
+    turn_fed : (taken : ℕ) (bytes : List ℕ) (t : Turned) → taken ≤ length input →
         take taken input ≡ take f.taken input ++ bytes →
         Fits t → ((rest : List ℕ) → course f.run (bytes ++ rest) ≡ preceded (reply_of t) (course t.run rest)) → SoFar (following taken f.out f.written t)
-    turn-fed taken bytes t within at fit first =
+    turn_fed taken bytes t within at fit first =
         record {
           within = within;
           course_is = λ rest.
@@ -55,38 +55,38 @@ module _ (s : Run) (input : List ℕ) where
         }
 
     -- a byte that is heard
-    byte-fed : f.taken < length input → walks_in (phase_of f) ≡ false → SoFar (heard_once input f)
-    byte-fed more still =
+    byte_fed : f.taken < length input → walks_in (phase_of f) ≡ false → SoFar (heard_once input f)
+    byte_fed more still =
         let b = get_or input f.taken 0 in
-        turn-fed (f.taken + 1) (b ∷ []) (heard f.run b) (omega arith) (rw add-one (take-suc input f.taken 0 more)) (heard_fits f.run b)
+        turn_fed (f.taken + 1) (b ∷ []) (heard f.run b) (omega arith) (rw add-one (take-suc input f.taken 0 more)) (heard_fits f.run b)
         (byte_first f.run still b)
 
     -- a step of a walk
-    walk-fed : (c : ℕ) → phase_of f ≡ Phase.Walking c → SoFar (walked_once c f)
-    walk-fed c e =
-        turn-fed f.taken [] (walk_turn f.run c) fed.within (sym (append-nil (take f.taken input))) (walk_fits f.run c)
+    walk_fed : (c : ℕ) → phase_of f ≡ Phase.Walking c → SoFar (walked_once c f)
+    walk_fed c e =
+        turn_fed f.taken [] (walk_turn f.run c) fed.within (sym (append-nil (take f.taken input))) (walk_fits f.run c)
         (walk_first f.run c e)
 
     -- by the phase
     fed_by : (p : Phase) → phase_of f ≡ p → waits_in p (ltb f.taken (length input)) ≡ true → SoFar (fed_in p input f)
-    fed_by Phase.Between e w = byte-fed (ltb-true _ _ w) (ap walks_in e)
-    fed_by (Phase.Gathering k got) e w = byte-fed (ltb-true _ _ w) (ap walks_in e)
-    fed_by (Phase.Walking c) e w = walk-fed c e
+    fed_by Phase.Between e w = byte_fed (ltb-true _ _ w) (ap walks_in e)
+    fed_by (Phase.Gathering k got) e w = byte_fed (ltb-true _ _ w) (ap walks_in e)
+    fed_by (Phase.Walking c) e w = walk_fed c e
     fed_by Phase.Ended e w = absurd (eqb-false 0 1 refl (cc))
 
-  once-fed : (f : Feeding) → going (length input) f ≡ true → SoFar f → SoFar (fed_once input f)
+  once_fed : (f : Feeding) → going (length input) f ≡ true → SoFar f → SoFar (fed_once input f)
   unfolding going waits fed_once
-  once-fed f g fed =
+  once_fed f g fed =
       let e = both_true _ _ g in
       fed_by f fed e.0 (phase_of f) refl e.1
 
-  none-fed : (out : List ℕ) → SoFar (begun s out)
-  none-fed out = record { within = omega arith; course_is = λ rest. refl }
+  none_fed : (out : List ℕ) → SoFar (begun s out)
+  none_fed out = record { within = omega arith; course_is = λ rest. refl }
 
   -- all the turns of a feed
   pub whole_fed : (out : List ℕ) → SoFar (fed_whole input (begun s out))
   unfolding fed_whole
-  whole_fed out = kept (going (length input)) (fed_once input) SoFar once-fed (length input + length out) (begun s out) (none-fed out)
+  whole_fed out = kept (going (length input)) (fed_once input) SoFar once_fed (length input + length out) (begun s out) (none_fed out)
 
 -- after them there is nothing to be done, or no room
 pub fed_to_end : (input : List ℕ) (f : Feeding) → going (length input) (fed_whole input f) ≡ false

@@ -82,46 +82,46 @@ module _ (hd : Header) (j : ℕ) (some : 1 ≤ hd.used) (most : hd.used ≤ limi
   abbrev r : List ℕ
   r = rows_of u
 
-  shape-to : shape_number l r hd ≡ 0
-  shape-to =
+  shape_to : shape_number l r hd ≡ 0
+  shape_to =
       let e : length (set (zero_words u) (j * link_words) 1) ≡ (u - 1) * link_words =
       length-set (zero_words u) (j * link_words) 1 ∙ length-replicate ((u - 1) * link_words) 0 in
       shape_is l r hd (omega (arith, e)) (length-replicate (u * row_words) 0) some most few
 
-  astray-0 : next_at l u 0 ≡ u
+  astray_0 : next_at l u 0 ≡ u
   unfolding link_at
-  astray-0 = rw (lt-ltb 0 u some) refl
+  astray_0 = rw (lt-ltb 0 u some) refl
 
-  declines-to : (row : List ℕ) → left (insert_rule l r hd row) ≡ record { links = l; rows = r; header = hd }
+  declines_to : (row : List ℕ) → left (insert_rule l r hd row) ≡ record { links = l; rows = r; header = hd }
   unfolding insert_rule insert_by unless
-  declines-to row =
+  declines_to row =
       let x = insert_links l u in
       by_pick (λ (o : Outcome). left o ≡ record { links = l; rows = r; header = hd }) (eqb (insert_number l r hd row x) 0) _ _
-      (λ z. absurd (omega (arith, (insert_passed l r hd row x (eqb-true _ _ z)).run.front.below, astray-0)))
+      (λ z. absurd (omega (arith, (insert_passed l r hd row x (eqb-true _ _ z)).run.front.below, astray_0)))
       (λ _. refl)
 
-  other-0 : j ≡ other_end_at l u 0
+  other_0 : j ≡ other_end_at l u 0
   unfolding link_at
-  other-0 = rw (lt-ltb 0 u some) refl
+  other_0 = rw (lt-ltb 0 u some) refl
 
   -- the version of slot 0 and of slot j is 0, that of the slot after j is 1
-  version-0 : version_at l u 0 ≡ 0
+  version_0 : version_at l u 0 ≡ 0
   unfolding link_at
-  version-0 = rw (lt-ltb 0 u some) refl
+  version_0 = rw (lt-ltb 0 u some) refl
 
   module _ (below : suc j < u) where
-    version-j : (i : ℕ) → i ≡ j → version_at l u i ≡ 0
+    version_j : (i : ℕ) → i ≡ j → version_at l u i ≡ 0
     unfolding link_at
-    version-j zero e = rw (lt-ltb 0 u some) refl
-    version-j (suc i) e =
+    version_j zero e = rw (lt-ltb 0 u some) refl
+    version_j (suc i) e =
         let n : suc i * link_words + 0 ≡ suc (suc (suc (suc (i * link_words)))) = omega arith in
         let apart : i * link_words ≡ j * link_words → ⊥ = λ q. omega arith in
         rw (lt-ltb (suc i) u (omega arith), n)
         (get_or-set_other (zero_words u) (j * link_words) (i * link_words) 1 0 apart ∙ get_or-replicate ((u - 1) * link_words) (i * link_words) 0 0 (omega arith))
 
-    version-next : version_at l u (suc j) ≡ 1
+    version_next : version_at l u (suc j) ≡ 1
     unfolding link_at
-    version-next =
+    version_next =
         let n : suc j * link_words + 0 ≡ suc (suc (suc (suc (j * link_words)))) = omega arith in
         rw (lt-ltb (suc j) u below, n)
         (get_or-set_same (zero_words u) (j * link_words) 1 0 (rw (length-replicate {A = ℕ} ((u - 1) * link_words) 0) (omega arith)))
@@ -129,21 +129,21 @@ module _ (hd : Header) (j : ℕ) (some : 1 ≤ hd.used) (most : hd.used ≤ limi
     -- the first step of a walk shows the slot after j
     entry : entry_number l r hd ≡ 0
     unfolding entry_number zero_number ◌▸◌
-    entry = rw (shape-to, version-0) refl
+    entry = rw (shape_to, version_0) refl
 
     over : visit l u (suc j) ≡ hop_from l hd 0
     unfolding vacant_at occupied_at past_front
     over =
         let v = version_at l u in
-        let first : vacant_at l u 0 ≡ true = vacant_yes v u 0 some (rw version-0 refl) in
-        let last : vacant_at l u j ≡ true = vacant_yes v u j (omega arith) (rw (version-j j refl) refl) in
-        let next : occupied_at l u (suc j) ≡ true = occupied_yes v u (suc j) below (rw version-next refl) in
-        let law = over_run l hd 0 j other-0 first (both_if (vacant_at l u 0) false (λ _. refl)) last (omega arith) in
+        let first : vacant_at l u 0 ≡ true = vacant_yes v u 0 some (rw version_0 refl) in
+        let last : vacant_at l u j ≡ true = vacant_yes v u j (omega arith) (rw (version_j j refl) refl) in
+        let next : occupied_at l u (suc j) ≡ true = occupied_yes v u (suc j) below (rw version_next refl) in
+        let law = over_run l hd 0 j other_0 first (both_if (vacant_at l u 0) false (λ _. refl)) last (omega arith) in
         rw (add-one j, ne_eqb (suc j) u (λ z. omega arith), next) at law
 
-    first-shows : (hop_rule l r hd 0).answer ≡ visit l u (suc j)
+    first_shows : (hop_rule l r hd 0).answer ≡ visit l u (suc j)
     unfolding hop_rule unless
-    first-shows = rw entry (sym over)
+    first_shows = rw entry (sym over)
 
 -- the state before the first byte, with the same header
 abbrev pub first : Stream → Stream
@@ -180,24 +180,24 @@ module _ (hd : Header) (body : List ℕ) (some : 1 ≤ hd.used) (most : hd.used 
     abbrev Declines : Type 0
     Declines = (row : List ℕ) → left (insert_rule lj (rows_of hd.used) hd row) ≡ record { links = lj; rows = rows_of hd.used; header = hd }
 
-    left-on : (p : Phase) → (shape_number lj (rows_of hd.used) hd ≡ 0 → Declines → Leads (on Phase.Between) (way_in p body) (on p)) →
+    left_on : (p : Phase) → (shape_number lj (rows_of hd.used) hd ≡ 0 → Declines → Leads (on Phase.Between) (way_in p body) (on p)) →
         LeftBy (state p) (bytes_to (state p))
-    left-on p way =
-        let z = shape-to hd j some most few in
-        let d = declines-to hd j some most few in
+    left_on p way =
+        let z = shape_to hd j some most few in
+        let d = declines_to hd j some most few in
         record { links = lj; rows = rows_of hd.used; leads = from_start lj (rows_of hd.used) hd z d body whole (way_in p body) (on p) (way z d) }
 
   left_in : (p : Phase) → possible_in p hd ≡ true → LeftBy (state p) (bytes_to (state p))
-  left_in Phase.Between e = left-on 0 Phase.Between (λ _ _. ([], none))
-  left_in (Phase.Gathering k got) e = left-on 0 (Phase.Gathering k got) (λ z d. gathering_from _ _ hd z d k got body whole (ltb-true _ _ e))
+  left_in Phase.Between e = left_on 0 Phase.Between (λ _ _. ([], none))
+  left_in (Phase.Gathering k got) e = left_on 0 (Phase.Gathering k got) (λ z d. gathering_from _ _ hd z d k got body whole (ltb-true _ _ e))
   left_in (Phase.Walking zero) e = absurd (omega (arith, (stands_after 0 hd e).0))
   left_in (Phase.Walking (suc zero)) e = absurd (omega (arith, (stands_after 1 hd e).0))
   left_in (Phase.Walking (suc (suc j))) e =
       let below = (stands_after (suc (suc j)) hd e).1 in
-      let shows = rw (add-one (suc j)) at (first-shows hd j some most few (omega arith)) in
-      left-on j (Phase.Walking (suc (suc j)))
+      let shows = rw (add-one (suc j)) at (first_shows hd j some most few (omega arith)) in
+      left_on j (Phase.Walking (suc (suc j)))
       (λ z d. walking_from _ _ hd z d body (key_at (links_to hd.used j) hd.used (suc j)) (suc (suc j)) shows)
-  left_in Phase.Ended e = left-on 0 Phase.Ended (λ z d. ended_from _ _ hd z d body)
+  left_in Phase.Ended e = left_on 0 Phase.Ended (λ z d. ended_from _ _ hd z d body)
 
 -- every state that passes the test is left by bytes
 pub possible_left : (x : Stream) → Sized x → possible x ≡ true → LeftBy x (bytes_to x)

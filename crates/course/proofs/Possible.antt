@@ -89,16 +89,16 @@ module _ (s : Run) (c : ℕ) where
   abbrev o : Outcome
   o = outcome (table_of s) (ask (hop c))
 
-  walk-by-passing : (k : Kind) → o.answer.kind ≡ k → table_of (walk_by s o k).run ≡ table_of s → Passing (walk_by s o k)
-  walk-by-passing gives e same =
+  walk_by_passing : (k : Kind) → o.answer.kind ≡ k → table_of (walk_by s o k).run ≡ table_of s → Passing (walk_by s o k)
+  walk_by_passing gives e same =
       further_passing c s.stream.header.used o.answer.cursor (walk_by s o gives).run.stream.header
       (hop_further s.links s.stream.header c s.rows e)
       (ap (λ (t : Table). t.header.used) same)
-  walk-by-passing ends e same = refl
-  walk-by-passing refuses e same = refl
+  walk_by_passing ends e same = refl
+  walk_by_passing refuses e same = refl
 
-  walk-passing : Passing (walk_turn s c)
-  walk-passing = walk-by-passing o.answer.kind refl (walk_table s c)
+  walk_passing : Passing (walk_turn s c)
+  walk_passing = walk_by_passing o.answer.kind refl (walk_table s c)
 
 -- each turn of a feed, and all of them
 once_passing : (input : List ℕ) (f : Feeding) → passing f.run.stream ≡ true → passing (fed_once input f).run.stream ≡ true
@@ -108,7 +108,7 @@ once_passing input f h = by (phase_of f)
     by : (p : Phase) → passing (fed_in p input f).run.stream ≡ true
     by Phase.Between = heard_passing f.run (get_or input f.taken 0) h
     by (Phase.Gathering k got) = heard_passing f.run (get_or input f.taken 0) h
-    by (Phase.Walking c) = walk-passing f.run c
+    by (Phase.Walking c) = walk_passing f.run c
     by Phase.Ended = heard_passing f.run (get_or input f.taken 0) h
 
 feed_passing : (s : Run) (input out : List ℕ) → (feed_rule s input out).number ≡ 0 → passing (feed_rule s input out).run.stream ≡ true

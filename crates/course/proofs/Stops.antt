@@ -34,9 +34,9 @@ nothing_left n taken Phase.Ended h w e = absurd (e refl)
 
 module _ (s : Run) (input out : List ℕ) where
   -- an output keeps its length
-  same-room : length (fed_whole input (begun s out)).out ≡ length out
+  same_room : length (fed_whole input (begun s out)).out ≡ length out
   unfolding fed_whole
-  same-room =
+  same_room =
       kept (going (length input)) (fed_once input) (λ (f : Feeding). length f.out ≡ length out) (λ f _ e. turn_length input f ∙ e)
       (length input + length out) (begun s out) refl
 
@@ -44,26 +44,26 @@ module _ (s : Run) (input out : List ℕ) where
     abbrev f : Feeding
     f = fed_whole input (begun s out)
 
-    by-turns : (P : Piece → Type 0) → P (piece (length input) f) → P (feed_rule s input out)
-    by-turns P p = subst P (sym (unrefused s input out e).1) p
+    by_turns : (P : Piece → Type 0) → P (piece (length input) f) → P (feed_rule s input out)
+    by_turns P p = subst P (sym (unrefused s input out e).1) p
 
     -- not since the output is full: the piece is taken whole, and the last walk is at its end
     pub taken_whole : let p = feed_rule s input out in p.waits ≡ false → p.run.stream.phase ≢ Phase.Ended →
         (p.taken ≡ length input) × (walks_in p.run.stream.phase ≡ false)
     unfolding waits
     taken_whole =
-        by-turns (λ (p : Piece). p.waits ≡ false → p.run.stream.phase ≢ Phase.Ended → (p.taken ≡ length input) × (walks_in p.run.stream.phase ≡ false))
+        by_turns (λ (p : Piece). p.waits ≡ false → p.run.stream.phase ≢ Phase.Ended → (p.taken ≡ length input) × (walks_in p.run.stream.phase ≡ false))
         (nothing_left (length input) f.taken (phase_of f) (whole_fed s input out).within)
 
     -- since it is full: less room is left than the longest reply needs
     pub too_full : let p = feed_rule s input out in p.waits ≡ true → length out < p.written + longest
     unfolding going fits
     too_full =
-        by-turns (λ (p : Piece). p.waits ≡ true → length out < p.written + longest)
+        by_turns (λ (p : Piece). p.waits ≡ true → length out < p.written + longest)
         (λ h.
         let none-fits = first_fails (fits (length f.out) f.written) (waits (length input) f) (fed_to_end input (begun s out)) h in
         let less = leb-false (f.written + longest) (length f.out) none-fits in
-        omega (arith, same-room))
+        omega (arith, same_room))
 
   -- after the end no byte is read and none is written
   pub ended_feed : s.stream.phase ≡ Phase.Ended → let p = feed_rule s input out in

@@ -61,9 +61,9 @@ module _ (l : List ℕ) (hd : Header) (c : ℕ) where
         let behind : c ≤ back = ltb-false _ _ (both_false _ _ e₃.1 v.test) in
         shown (back + 1) (occupied l hd.used (back + 1) occ) (omega arith)
 
-    hop-goes : Goes (hop_from l hd c)
+    hop_goes : Goes (hop_from l hd c)
     unfolding hop_from hop_answer
-    hop-goes =
+    hop_goes =
         let back = other_end_at l hd.used c in
         by_pick Goes (eqb (hop_number l hd c back) 0) _ _
         (λ n.
@@ -80,7 +80,7 @@ module _ (l : List ℕ) (hd : Header) (c : ℕ) where
   unfolding hop_rule unless entry_number zero_number
   hop_further r =
       by_pick (λ (o : Outcome). Goes o.answer) (eqb (entry_number l r hd) 0) _ _
-      (λ n. hop-goes (passed _ _ _ (omega arith) (eqb-true _ _ n)).1)
+      (λ n. hop_goes (passed _ _ _ (omega arith) (eqb-true _ _ n)).1)
       (λ _ e. absurd (eqb-false 0 1 refl (cc)))
 
 -- a look leaves tables and header as they were, and so does a step of a walk
@@ -114,16 +114,16 @@ module _ (s : Run) (c : ℕ) where
   abbrev o : Outcome
   o = outcome (table_of s) (ask (hop c))
 
-  fewer-by : (k : Kind) → o.answer.kind ≡ k → steps (walk_by s o k).run < suc (s.stream.header.used - c)
-  fewer-by gives e =
+  fewer_by : (k : Kind) → o.answer.kind ≡ k → steps (walk_by s o k).run < suc (s.stream.header.used - c)
+  fewer_by gives e =
       let same = ap (λ (t : Table). t.header.used) (look_table s.links s.rows s.stream.header o.answer.key) in
       let f = hop_further s.links s.stream.header c s.rows e in
       omega (arith, f.on, f.within)
-  fewer-by ends e = omega arith
-  fewer-by refuses e = omega arith
+  fewer_by ends e = omega arith
+  fewer_by refuses e = omega arith
 
   fewer : steps (walk_turn s c).run < suc (s.stream.header.used - c)
-  fewer = fewer-by o.answer.kind refl
+  fewer = fewer_by o.answer.kind refl
 
 μ : Course → ℕ
 μ x = steps x.run

@@ -95,15 +95,15 @@ small = replicate longest 0
 
 -- one byte fed alone, in a phase that hears it
 module _ (s : Run) (b : ℕ) (hears : waits_in s.stream.phase true ≡ true) (still : walks_in s.stream.phase ≡ false) where
-  first-turn : fed_whole (b ∷ []) (begun s small) ≡ fed_whole (b ∷ []) (following 1 small 0 (heard s b))
+  first_turn : fed_whole (b ∷ []) (begun s small) ≡ fed_whole (b ∷ []) (following 1 small 0 (heard s b))
   unfolding going waits fits fed_once
-  first-turn = fed_on (b ∷ []) (begun s small) hears ∙ ap (fed_whole (b ∷ [])) (turn_hears s.stream.phase (b ∷ []) (begun s small) still)
+  first_turn = fed_on (b ∷ []) (begun s small) hears ∙ ap (fed_whole (b ∷ [])) (turn_hears s.stream.phase (b ∷ []) (begun s small) still)
 
-  byte-alone : walks_in (heard s b).run.stream.phase ≡ false → fed_whole (b ∷ []) (begun s small) ≡ following 1 small 0 (heard s b)
+  byte_alone : walks_in (heard s b).run.stream.phase ≡ false → fed_whole (b ∷ []) (begun s small) ≡ following 1 small 0 (heard s b)
   unfolding going waits
-  byte-alone e =
+  byte_alone e =
       let f = following 1 small 0 (heard s b) in
-      first-turn ∙ fed_off (b ∷ []) f (both_if (fits (length f.out) f.written) (waits 1 f) (λ _. no_byte (phase_of f) e))
+      first_turn ∙ fed_off (b ∷ []) f (both_if (fits (length f.out) f.written) (waits 1 f) (λ _. no_byte (phase_of f) e))
 
   module _ (number : feed_number s.links s.rows s.stream longest ≡ 0) where
     by_byte : (f : Feeding) → fed_whole (b ∷ []) (begun s small) ≡ f → f.taken ≡ 1 → (taken : List ℕ) (s' : Run) → Leads f.run taken s' →
@@ -114,7 +114,7 @@ module _ (s : Run) (b : ℕ) (hears : waits_in s.stream.phase true ≡ true) (st
         (_, rw one at (piece_more s s' (b ∷ []) small taken ps.0 (piece 1 f) whole refl ps.1))
 
     hear : walks_in (heard s b).run.stream.phase ≡ false → (taken : List ℕ) (s' : Run) → Leads (heard s b).run taken s' → Leads s (b ∷ taken) s'
-    hear e taken s' ps = by_byte (following 1 small 0 (heard s b)) (byte-alone e) refl taken s' ps
+    hear e taken s' ps = by_byte (following 1 small 0 (heard s b)) (byte_alone e) refl taken s' ps
 
 -- tables of the right shape with a header, on which insert is refused whatever the row
 module _ (l r : List ℕ) (hd : Header) (shape : shape_number l r hd ≡ 0)
@@ -127,16 +127,16 @@ module _ (l r : List ℕ) (hd : Header) (shape : shape_number l r hd ≡ 0)
   number p body e = rw (shape, e) refl
 
   -- a byte of a body that is not its last
-  heard-body : (k : Command) (got : ℕ) (body : List ℕ) (b : ℕ) → suc got < body_length k →
+  heard_body : (k : Command) (got : ℕ) (body : List ℕ) (b : ℕ) → suc got < body_length k →
       (heard (at (Phase.Gathering k got) body) b).run ≡ at (Phase.Gathering k (suc got)) (set body got b)
   unfolding heard
-  heard-body k got body b h = rw (add-one got, lt-ltb (suc got) (body_length k) h) refl
+  heard_body k got body b h = rw (add-one got, lt-ltb (suc got) (body_length k) h) refl
 
   -- the last of a row
-  heard-row : (got : ℕ) (body : List ℕ) (b : ℕ) → suc got ≡ body_bytes →
+  heard_row : (got : ℕ) (body : List ℕ) (b : ℕ) → suc got ≡ body_bytes →
       (heard (at (Phase.Gathering Command.Insert got) body) b).run ≡ at Phase.Between (set body got b)
   unfolding heard
-  heard-row got body b h =
+  heard_row got body b h =
       rw (add-one got, h)
       (ap (λ (t : Table). record { links = t.links; rows = t.rows; stream = record { header = t.header; phase = Phase.Between; body = set body got b } })
       (declines (row_in (set body got b))))
@@ -147,7 +147,7 @@ module _ (l r : List ℕ) (hd : Header) (shape : shape_number l r hd ≡ 0)
   gather k [] got body h taken s' ps = subst (λ (n : ℕ). Leads (at (Phase.Gathering k n) body) taken s') (omega arith) ps
   gather k (b ∷ bs) got body h taken s' ps =
       let s = at (Phase.Gathering k got) body in
-      let next = heard-body k got body b (omega arith) in
+      let next = heard_body k got body b (omega arith) in
       let same : got + suc (length bs) ≡ suc got + length bs = omega arith in
       hear s b refl refl (number (Phase.Gathering k got) body (lt-ltb got (body_length k) (omega arith))) (rw next refl) (bs ++ taken) s'
       (rw next (gather k bs (suc got) (set body got b) (omega arith) taken s' (rw same at ps)))
@@ -157,11 +157,11 @@ module _ (l r : List ℕ) (hd : Header) (shape : shape_number l r hd ≡ 0)
   pour [] got body h j taken s' ps = absurd (omega arith)
   pour (b ∷ []) got body h j taken s' ps =
       let s = at (Phase.Gathering Command.Insert got) body in
-      let next = heard-row got body b (omega arith) in
+      let next = heard_row got body b (omega arith) in
       hear s b refl refl (number (Phase.Gathering Command.Insert got) body (lt-ltb got body_bytes j)) (rw next refl) taken s' (rw next ps)
   pour (b ∷ c ∷ bs) got body h j taken s' ps =
       let s = at (Phase.Gathering Command.Insert got) body in
-      let next = heard-body Command.Insert got body b (omega arith) in
+      let next = heard_body Command.Insert got body b (omega arith) in
       hear s b refl refl (number (Phase.Gathering Command.Insert got) body (lt-ltb got body_bytes j)) (rw next refl) (c ∷ (bs ++ taken)) s'
       (rw next (pour (c ∷ bs) (suc got) (set body got b) (omega arith) (omega arith) taken s' ps))
 
@@ -180,10 +180,10 @@ module _ (l r : List ℕ) (hd : Header) (shape : shape_number l r hd ≡ 0)
       let n = length-take-le got body h in
       sets-eq (take got body) body 0 (omega arith) ∙ rw (n, zero-add got) (take-append-drop got body)
 
-  gathered-from : (k : Command) (got : ℕ) (body : List ℕ) → length body ≡ body_bytes → got < body_length k → body_length k ≤ body_bytes →
+  gathered_from : (k : Command) (got : ℕ) (body : List ℕ) → length body ≡ body_bytes → got < body_length k → body_length k ≤ body_bytes →
       (heard (at Phase.Between body) (kind_byte k)).run ≡ at (Phase.Gathering k 0) body →
       Leads (at Phase.Between body) (kind_byte k ∷ take got body) (at (Phase.Gathering k got) body)
-  gathered-from k got body e h j first =
+  gathered_from k got body e h j first =
       let n = length-take-le got body (omega arith) in
       let s' = at (Phase.Gathering k got) body in
       let bytes = append-nil (take got body) in
@@ -195,9 +195,9 @@ module _ (l r : List ℕ) (hd : Header) (shape : shape_number l r hd ≡ 0)
   pub gathering_from : (k : Command) (got : ℕ) (body : List ℕ) → length body ≡ body_bytes → got < body_length k →
       Leads (at Phase.Between body) (kind_byte k ∷ take got body) (at (Phase.Gathering k got) body)
   unfolding heard command_of
-  gathering_from Command.Insert got body e h = gathered-from Command.Insert got body e h (omega arith) refl
-  gathering_from Command.Remove got body e h = gathered-from Command.Remove got body e h (omega arith) refl
-  gathering_from Command.Look got body e h = gathered-from Command.Look got body e h (omega arith) refl
+  gathering_from Command.Insert got body e h = gathered_from Command.Insert got body e h (omega arith) refl
+  gathering_from Command.Remove got body e h = gathered_from Command.Remove got body e h (omega arith) refl
+  gathering_from Command.Look got body e h = gathered_from Command.Look got body e h (omega arith) refl
   gathering_from Command.Clear got body e h = absurd (omega arith)
   gathering_from Command.Walk got body e h = absurd (omega arith)
   gathering_from Command.Unknown got body e h = absurd (omega arith)
@@ -219,7 +219,7 @@ module _ (l r : List ℕ) (hd : Header) (shape : shape_number l r hd ≡ 0)
       rw (replied_keeps small 0 (reply_of t), forth small 0 (reply_of t) refl)
       (lt-leb (0 + length (reply_of t) + longest) longest (omega (arith, walk_speaks (at (Phase.Walking 0) body) 0))) in
       let last : going 1 g ≡ false = rw full refl in
-      let all : fed_whole (5 ∷ []) (begun s small) ≡ g = first-turn s 5 refl refl ∙ fed_on (5 ∷ []) f refl ∙ fed_off (5 ∷ []) g last in
+      let all : fed_whole (5 ∷ []) (begun s small) ≡ g = first_turn s 5 refl refl ∙ fed_on (5 ∷ []) f refl ∙ fed_off (5 ∷ []) g last in
       let there : t.run ≡ at (Phase.Walking c) body =
       rw e
       (ap (λ (x : Table). record { links = x.links; rows = x.rows; stream = record { header = x.header; phase = Phase.Walking c; body = body } })

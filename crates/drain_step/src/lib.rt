@@ -1,4 +1,6 @@
 // The drain step: removes the slot after the run of slot 0, in a sound table the lowest live one. hop.rs 669-674 and 1131-1150
+#![tactic(auto)]
+
 ghost use Rattle.std.specs.Prelude.{◌≡◌};
 ghost use Rattle.rules.specs.Words.{zero_row};
 ghost use Rattle.rules.specs.Values.{of_key, of_drain, drained};

@@ -1,4 +1,6 @@
 // The one struct that every call of the C surface answers, and how each answer of the map is written in it. What a case does not name is zero.
+#![tactic(auto)]
+
 ghost use Rattle.std.specs.Prelude.{◌≡◌};
 ghost use Rattle.rules.specs.Words.{zero_row};
 ghost use Rattle.rules.specs.Values.{done, visited, counted, refused, of_key, of_hop, of_drain, of_clear, of_count, of_number};

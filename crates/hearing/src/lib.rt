@@ -1,4 +1,6 @@
 // One byte of the stream: what it does, and the states between two bytes.
+#![tactic(auto)]
+
 mod hearing;
 mod states;
 

@@ -29,37 +29,37 @@ no_other i k n = alike_other i k.index n
 
 module _ (w i : ℕ) where
   -- slot j gets the version y, and slot i sees s removals
-  put-ages : (s n : ℕ) (v : ℕ → ℕ) (j y : ℕ) → (i ≡ j → Age w n (v j) → Age w (s + n) y) → (i ≢ j → s ≡ 0) → Age w n (v i) → Age w (s + n) (put v j y i)
-  put-ages s n v j y h z a = go (ℕ_discrete i j)
+  put_ages : (s n : ℕ) (v : ℕ → ℕ) (j y : ℕ) → (i ≡ j → Age w n (v j) → Age w (s + n) y) → (i ≢ j → s ≡ 0) → Age w n (v i) → Age w (s + n) (put v j y i)
+  put_ages s n v j y h z a = go (ℕ_discrete i j)
     where
       go : Dec (i ≡ j) → Age w (s + n) (put v j y i)
       go (yes e) = rw (put_same v j y i e) (h e (subst (λ (t : ℕ). Age w n (v t)) e a))
       go (no d) = rw (put_other v j y i d, z d, zero-add n) a
 
-  event-ages : (n : ℕ) (m : Machine) (e : Event) (m' : Machine) → Happens m e m' → i < m.used → Age w n (m.versions i) →
+  event_ages : (n : ℕ) (m : Machine) (e : Event) (m' : Machine) → Happens m e m' → i < m.used → Age w n (m.versions i) →
       i < m'.used × Age w (sees i e + n) (m'.versions i)
   unfolding refilled_times
-  event-ages n m (handed k row) m' h l a =
-      (omega (arith, h.used), rw h.versions (put-ages 0 n m.versions k.index k.version new (λ _. refl) a))
+  event_ages n m (handed k row) m' h l a =
+      (omega (arith, h.used), rw h.versions (put_ages 0 n m.versions k.index k.version new (λ _. refl) a))
     where
       new : i ≡ k.index → Age w n (m.versions k.index) → Age w (0 + n) k.version
       new e b = rw (zero-add n) (let v = h.version (omega arith) in omega (arith, b, v))
-  event-ages n m (removed k) m' h l a =
-      (omega (arith, h.used), rw h.versions (put-ages (sees i (removed k)) n m.versions k.index _ gone (no_other i k) a))
+  event_ages n m (removed k) m' h l a =
+      (omega (arith, h.used), rw h.versions (put_ages (sees i (removed k)) n m.versions k.index _ gone (no_other i k) a))
     where
       gone : i ≡ k.index → Age w n (m.versions k.index) → Age w (sees i (removed k) + n) (rise (m.versions k.index))
       gone e b =
           let odd : m.versions k.index ≡ with_bit (m.versions k.index) = omega (arith, h.live.same, h.live.odd) in
           let more : sees i (removed k) + n ≡ suc n = omega (arith, its_own i k e) in
           rw more (ap refilled (odd ∙ b))
-  event-ages n m (wrote k row) m' h l a = (omega (arith, h.used), rw (h.versions, zero-add n) a)
+  event_ages n m (wrote k row) m' h l a = (omega (arith, h.used), rw (h.versions, zero-add n) a)
 
-  path-ages : (n : ℕ) (m : Machine) (es : List Event) (m' : Machine) → Path m es m' → i < m.used → Age w n (m.versions i) →
+  path_ages : (n : ℕ) (m : Machine) (es : List Event) (m' : Machine) → Path m es m' → i < m.used → Age w n (m.versions i) →
       i < m'.used × Age w (seen i es + n) (m'.versions i)
-  path-ages n m [] m' p l a = rw (sym p, zero-add n) (l, a)
-  path-ages n m (e ∷ es) m' p l a =
-      let b = event-ages n m e p.0 p.1 l a in
-      let c = path-ages (sees i e + n) p.0 es m' p.2 b.0 b.1 in
+  path_ages n m [] m' p l a = rw (sym p, zero-add n) (l, a)
+  path_ages n m (e ∷ es) m' p l a =
+      let b = event_ages n m e p.0 p.1 l a in
+      let c = path_ages (sees i e + n) p.0 es m' p.2 b.0 b.1 in
       let s : seen i (e ∷ es) + n ≡ seen i es + (sees i e + n) = omega arith in
       (c.0, rw s c.1)
 
@@ -69,7 +69,7 @@ module _ (m : Machine) (k : Key) (es : List Event) (m' : Machine) (p : Path m (r
   unfolding refilled_times
   aged =
       let l = p.1.live in
-      let c = path-ages k.version k.index 0 m (removed k ∷ es) m' p l.low (omega (arith, l.same, l.odd)) in
+      let c = path_ages k.version k.index 0 m (removed k ∷ es) m' p l.low (omega (arith, l.same, l.odd)) in
       (c.0, rw (sym (add-zero (seen k.index (removed k ∷ es)))) c.1)
 
   -- if it is live again, and if its slot is filled again: the version is its own, removed and filled again as often

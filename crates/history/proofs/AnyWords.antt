@@ -46,28 +46,28 @@ module _ (t : Table) where
     pub down : Refused o → Down ks row o
 
   -- an answer that gives something, or that is done
-  given-told : (ks row : List ℕ) (o : Outcome) → o.answer.kind ≡ gives → o.answer.number ≡ 0 → Told ks row o
-  given-told ks row o e n = record { works = λ _. n; down = λ r. absurd (eqb-false 0 1 refl (cc)) }
+  given_told : (ks row : List ℕ) (o : Outcome) → o.answer.kind ≡ gives → o.answer.number ≡ 0 → Told ks row o
+  given_told ks row o e n = record { works = λ _. n; down = λ r. absurd (eqb-false 0 1 refl (cc)) }
 
-  done-told : (ks row : List ℕ) (o : Outcome) → o.answer ≡ done → Told ks row o
-  done-told ks row o e =
+  done_told : (ks row : List ℕ) (o : Outcome) → o.answer ≡ done → Told ks row o
+  done_told ks row o e =
       let k = ap (λ (v : Values). v.kind) e in
       record { works = λ _. ap (λ (v : Values). v.number) e; down = λ r. absurd (eqb-false 0 1 refl (cc)) }
 
   -- behind a number
-  unless-told : (ks : List ℕ) (n : ℕ) (o : Outcome) → Only ks n → (n ≡ 0 → Told ks zero_row o) →
+  unless_told : (ks : List ℕ) (n : ℕ) (o : Outcome) → Only ks n → (n ≡ 0 → Told ks zero_row o) →
       Told ks zero_row (unless t.links t.rows t.header n o)
   unfolding unless
-  unless-told ks n o h j =
+  unless_told ks n o h j =
       by_pick (Told ks zero_row) (eqb n 0) o _ (λ e. j (eqb-true n 0 e))
       (λ e. record {
         works = λ k. absurd (k refl);
         down = λ _. record { numbered = Given.listed ks n h e; unchanged = refl; zeros = refl; row_zeroed = refl };
       })
 
-  answer-told : (ks : List ℕ) (n : ℕ) (v : Values) → Only ks n → Told ks zero_row (plain v t.header t.links t.rows) →
+  answer_told : (ks : List ℕ) (n : ℕ) (v : Values) → Only ks n → Told ks zero_row (plain v t.header t.links t.rows) →
       Told ks zero_row (plain (answer_unless n v) t.header t.links t.rows)
-  answer-told ks n v h j =
+  answer_told ks n v h j =
       by_pick (λ (a : Values). Told ks zero_row (plain a t.header t.links t.rows)) (eqb n 0) v _ (λ _. j)
       (λ e. record {
         works = λ k. absurd (k refl);
@@ -75,15 +75,15 @@ module _ (t : Table) where
       })
 
   -- a key's number beside a part
-  key-numbers : (k : Key) → Only key_numbers (key_number t.links t.rows t.header k)
-  key-numbers k = search Given.key_chain
+  key_numbers_lem : (k : Key) → Only key_numbers (key_number t.links t.rows t.header k)
+  key_numbers_lem k = search Given.key_chain
 
-  part-told : (k : Key) (o : Outcome) → o.answer ≡ of_number (key_number t.links t.rows t.header k) →
+  part_told : (k : Key) (o : Outcome) → o.answer ≡ of_number (key_number t.links t.rows t.header k) →
       ((key_number t.links t.rows t.header k ≡ 0 → ⊥) → (left o ≡ t) × (o.row ≡ [])) → Told key_numbers [] o
-  part-told k o a h = go (ℕ_discrete (key_number t.links t.rows t.header k) 0)
+  part_told k o a h = go (ℕ_discrete (key_number t.links t.rows t.header k) 0)
     where
       go : Dec (key_number t.links t.rows t.header k ≡ 0) → Told key_numbers [] o
-      go (yes z) = done-told key_numbers [] o (a ∙ ap of_number z)
+      go (yes z) = done_told key_numbers [] o (a ∙ ap of_number z)
       go (no n) =
           let e = ne_eqb (key_number t.links t.rows t.header k) 0 n in
           let r : o.answer ≡ refused (key_number t.links t.rows t.header k) = a ∙ simp e in
@@ -91,7 +91,7 @@ module _ (t : Table) where
           record {
             works = λ q. absurd (q (ap (λ (v : Values). v.kind) r));
             down = λ _. record {
-              numbered = rw m (Given.listed key_numbers _ (key-numbers k) e);
+              numbered = rw m (Given.listed key_numbers _ (key_numbers_lem k) e);
               unchanged = (h n).0;
               zeros = r ∙ ap refused (sym m);
               row_zeroed = (h n).1;
@@ -99,106 +99,106 @@ module _ (t : Table) where
           }
 
   -- the removal of a slot, behind other tests too
-  slot-told : (ks : List ℕ) (k : Key) → Only ks damaged → Told ks zero_row (remove_slot t.links t.rows t.header k)
+  slot_told : (ks : List ℕ) (k : Key) → Only ks damaged → Told ks zero_row (remove_slot t.links t.rows t.header k)
   unfolding remove_slot remove_by remove_step
-  slot-told ks k d = unless-told ks _ _ (Given.remove_chain ks t.links t.rows t.header _ d) (λ _. given-told ks zero_row _ refl refl)
+  slot_told ks k d = unless_told ks _ _ (Given.remove_chain ks t.links t.rows t.header _ d) (λ _. given_told ks zero_row _ refl refl)
 
   -- a count, and one more removal that only counts
   record Counts (o : Outcome) : Type 0 where
     kind : o.answer.kind ≡ gives
     number : o.answer.number ≡ 0
 
-  counts-on : (chosen : ℕ → Bool) (i : ℕ) (o : Outcome) → Counts o → Counts (remove_if chosen i o)
+  counts_on : (chosen : ℕ → Bool) (i : ℕ) (o : Outcome) → Counts o → Counts (remove_if chosen i o)
   unfolding remove_if
-  counts-on chosen i o c = by_pick Counts (both (occupied_at o.links o.header.used i) (chosen i)) _ o (λ _. record { kind = refl; number = refl }) (λ _. c)
+  counts_on chosen i o c = by_pick Counts (both (occupied_at o.links o.header.used i) (chosen i)) _ o (λ _. record { kind = refl; number = refl }) (λ _. c)
 
-  chosen-counts : (chosen : ℕ → Bool) (n : ℕ) (o : Outcome) → Counts o → Counts (remove_chosen chosen n o)
+  chosen_counts : (chosen : ℕ → Bool) (n : ℕ) (o : Outcome) → Counts o → Counts (remove_chosen chosen n o)
   unfolding remove_chosen
-  chosen-counts chosen zero o c = c
-  chosen-counts chosen (suc n) o c = counts-on chosen n (remove_chosen chosen n o) (chosen-counts chosen n o c)
+  chosen_counts chosen zero o c = c
+  chosen_counts chosen (suc n) o c = counts_on chosen n (remove_chosen chosen n o) (chosen_counts chosen n o c)
 
-  begin-told : (b : Beginning) → Told (given_by (begin b)) zero_row (outcome t (begin b))
+  begin_told : (b : Beginning) → Told (given_by (begin b)) zero_row (outcome t (begin b))
   unfolding start_rule rebuild_rule
-  begin-told start = unless-told _ _ _ (search Given.lent_chain) (λ _. done-told _ _ _ refl)
-  begin-told (rebuild bytes) = unless-told _ _ _ (search Given.rebuild_chain) (λ _. done-told _ _ _ refl)
+  begin_told start = unless_told _ _ _ (search Given.lent_chain) (λ _. done_told _ _ _ refl)
+  begin_told (rebuild bytes) = unless_told _ _ _ (search Given.rebuild_chain) (λ _. done_told _ _ _ refl)
 
   -- the hop step past its tests of shape and slot 0
   abbrev Hops : ℕ → Values → Type 0
   Hops c v = Told (given_by (ask (hop c))) zero_row (plain v t.header t.links t.rows)
 
-  hop-told : (c back : ℕ) → Hops c (hop_answer t.links t.header c back)
+  hop_told : (c back : ℕ) → Hops c (hop_answer t.links t.header c back)
   unfolding hop_answer
-  hop-told c back =
-      by_pick (Hops c) (leb t.header.used c) done _ (λ _. done-told _ _ _ refl)
-      (λ _. by_pick (Hops c) (occupied_at t.links t.header.used c) _ _ (λ _. given-told _ _ _ refl refl)
-      (λ _. by_pick (Hops c) (eqb (back + 1) t.header.used) done _ (λ _. done-told _ _ _ refl) (λ _. given-told _ _ _ refl refl)))
+  hop_told c back =
+      by_pick (Hops c) (leb t.header.used c) done _ (λ _. done_told _ _ _ refl)
+      (λ _. by_pick (Hops c) (occupied_at t.links t.header.used c) _ _ (λ _. given_told _ _ _ refl refl)
+      (λ _. by_pick (Hops c) (eqb (back + 1) t.header.used) done _ (λ _. done_told _ _ _ refl) (λ _. given_told _ _ _ refl refl)))
 
-  ask-told : (q : Question) → Told (given_by (ask q)) (no_row (ask q)) (outcome t (ask q))
+  ask_told : (q : Question) → Told (given_by (ask q)) (no_row (ask q)) (outcome t (ask q))
   unfolding hop_rule hop_from check_rule room_rule
-  ask-told (number k) = answer-told _ _ _ (key-numbers k) (done-told _ _ _ refl)
-  ask-told (look k) = part-told k _ refl (λ n. (refl, (missed t.links t.rows t.header k n).1))
-  ask-told (hop c) =
+  ask_told (number k) = answer_told _ _ _ (key_numbers_lem k) (done_told _ _ _ refl)
+  ask_told (look k) = part_told k _ refl (λ n. (refl, (missed t.links t.rows t.header k n).1))
+  ask_told (hop c) =
       let back = other_end_at t.links t.header.used c in
-      unless-told _ _ _ (search Given.entry_chain)
-      (λ _. answer-told _ (hop_number t.links t.header c back) (hop_answer t.links t.header c back) (search Given.hop_chain) (hop-told c back))
-  ask-told check = unless-told _ _ _ (search (Given.sound_chain, Given.entry_chain)) (λ _. done-told _ _ _ refl)
-  ask-told room = unless-told _ _ _ (search Given.entry_chain) (λ _. given-told _ _ _ refl refl)
+      unless_told _ _ _ (search Given.entry_chain)
+      (λ _. answer_told _ (hop_number t.links t.header c back) (hop_answer t.links t.header c back) (search Given.hop_chain) (hop_told c back))
+  ask_told check = unless_told _ _ _ (search (Given.sound_chain, Given.entry_chain)) (λ _. done_told _ _ _ refl)
+  ask_told room = unless_told _ _ _ (search Given.entry_chain) (λ _. given_told _ _ _ refl refl)
 
-  take-told : (ks side : List ℕ) (x : InsertLinks) → Told ks zero_row (insert_step t.links t.rows t.header side x)
+  take_told : (ks side : List ℕ) (x : InsertLinks) → Told ks zero_row (insert_step t.links t.rows t.header side x)
   unfolding insert_step take_new take_slot
-  take-told ks side x =
-      by_pick (Told ks zero_row) (eqb x.b 0) _ _ (λ _. given-told ks zero_row _ refl refl) (λ _. given-told ks zero_row _ refl refl)
+  take_told ks side x =
+      by_pick (Told ks zero_row) (eqb x.b 0) _ _ (λ _. given_told ks zero_row _ refl refl) (λ _. given_told ks zero_row _ refl refl)
 
-  insert-told : (side : List ℕ) → Told (given_by (insert side)) zero_row (outcome t (insert side))
+  insert_told : (side : List ℕ) → Told (given_by (insert side)) zero_row (outcome t (insert side))
   unfolding insert_rule insert_by
-  insert-told side = unless-told _ _ _ (search Given.insert_chain) (λ _. take-told _ side _)
+  insert_told side = unless_told _ _ _ (search Given.insert_chain) (λ _. take_told _ side _)
 
-  remove-told : (k : Key) → Told (given_by (remove k)) zero_row (outcome t (remove k))
+  remove_told : (k : Key) → Told (given_by (remove k)) zero_row (outcome t (remove k))
   unfolding remove_rule
-  remove-told k = unless-told _ _ _ (key-numbers k) (λ _. slot-told _ k (record { listed = refl }))
+  remove_told k = unless_told _ _ _ (key_numbers_lem k) (λ _. slot_told _ k (record { listed = refl }))
 
-  write-told : (k : Key) (row : Row) → Told (given_by (write k row)) [] (outcome t (write k row))
-  write-told k row =
-      part-told k _ refl
+  write_told : (k : Key) (row : Row) → Told (given_by (write k row)) [] (outcome t (write k row))
+  write_told k row =
+      part_told k _ refl
       (λ n. (
         ap (λ (r : List ℕ). record { links = t.links; rows = r; header = t.header }) (written_none t.links t.rows t.header k row n),
         (missed t.links t.rows t.header k n).1,
       ))
 
-  replace-told : (k : Key) (side : List ℕ) → Told (given_by (replace k side)) zero_row (outcome t (replace k side))
+  replace_told : (k : Key) (side : List ℕ) → Told (given_by (replace k side)) zero_row (outcome t (replace k side))
   unfolding replace_rule
-  replace-told k side = unless-told _ _ _ (search Given.replace_chain) (λ _. done-told _ _ _ refl)
+  replace_told k side = unless_told _ _ _ (search Given.replace_chain) (λ _. done_told _ _ _ refl)
 
-  drain-told : Told (given_by drain) zero_row (outcome t drain)
+  drain_told : Told (given_by drain) zero_row (outcome t drain)
   unfolding drain_rule remove_at
-  drain-told =
-      unless-told _ _ _ (search Given.entry_chain)
-      (λ _. by_pick (Told (given_by drain) zero_row) (eqb t.header.live 0) (plain done t.header t.links t.rows) _ (λ _. done-told _ _ _ refl)
-      (λ _. unless-told _ _ _ (search Given.slot_chain) (λ _. slot-told _ _ (record { listed = refl }))))
+  drain_told =
+      unless_told _ _ _ (search Given.entry_chain)
+      (λ _. by_pick (Told (given_by drain) zero_row) (eqb t.header.live 0) (plain done t.header t.links t.rows) _ (λ _. done_told _ _ _ refl)
+      (λ _. unless_told _ _ _ (search Given.slot_chain) (λ _. slot_told _ _ (record { listed = refl }))))
 
   -- past its check clear comes to its end
   clear_told : Told (given_by clear) zero_row (outcome t clear)
   unfolding clear_rule
   clear_told =
-      unless-told _ _ _ (search (Given.sound_chain, Given.entry_chain)) (λ e. done-told _ _ _ (clear_ends t.links t.rows t.header e).0)
+      unless_told _ _ _ (search (Given.sound_chain, Given.entry_chain)) (λ e. done_told _ _ _ (clear_ends t.links t.rows t.header e).0)
 
-  retain-told : (bytes : List ℕ) → Told (given_by (retain bytes)) zero_row (outcome t (retain bytes))
+  retain_told : (bytes : List ℕ) → Told (given_by (retain bytes)) zero_row (outcome t (retain bytes))
   unfolding retain_rule
-  retain-told bytes =
-      unless-told _ _ _ (search Given.retain_chain)
-      (λ _. let c = chosen-counts (struck_by bytes) t.header.used _ (record { kind = refl; number = refl }) in given-told _ _ _ c.kind c.number)
+  retain_told bytes =
+      unless_told _ _ _ (search Given.retain_chain)
+      (λ _. let c = chosen_counts (struck_by bytes) t.header.used _ (record { kind = refl; number = refl }) in given_told _ _ _ c.kind c.number)
 
   -- any call
   pub told : (c : Call) → Told (given_by c) (no_row c) (outcome t c)
-  told (begin b) = begin-told b
-  told (ask q) = ask-told q
-  told (insert side) = insert-told side
-  told (remove k) = remove-told k
-  told (write k row) = write-told k row
-  told (replace k side) = replace-told k side
-  told drain = drain-told
+  told (begin b) = begin_told b
+  told (ask q) = ask_told q
+  told (insert side) = insert_told side
+  told (remove k) = remove_told k
+  told (write k row) = write_told k row
+  told (replace k side) = replace_told k side
+  told drain = drain_told
   told clear = clear_told
-  told (retain bytes) = retain-told bytes
+  told (retain bytes) = retain_told bytes
 
   -- so a number that is not 0 is a refusal's; and no other number than these is given
   by_kind : (P : Kind → Type 0) → P gives → P ends → P refuses → (k : Kind) → P k

@@ -70,10 +70,10 @@ module _ (chosen : ℕ → Bool) (m : Machine) where
           let o = occupied_is m.versions m.used n e in
           record { low = omega (arith, o.0, (left chosen m n).used); odd = o.1; same = same_version n }
 
-  chosen-path : (n : ℕ) → Path m (all_removed chosen m.versions m.used n) (gone n)
+  chosen_path : (n : ℕ) → Path m (all_removed chosen m.versions m.used n) (gone n)
   unfolding all_removed remove_chosen_on
-  chosen-path zero = refl
-  chosen-path (suc n) = join m (all_removed chosen m.versions m.used n) (gone n) _ _ (chosen-path n) (one_more n)
+  chosen_path zero = refl
+  chosen_path (suc n) = join m (all_removed chosen m.versions m.used n) (gone n) _ _ (chosen_path n) (one_more n)
 
   abbrev end : Machine
   end = gone m.used
@@ -83,14 +83,14 @@ module _ (chosen : ℕ → Bool) (m : Machine) where
     abbrev i : ℕ
     i = k.index
 
-    not-gone : {A : Type 0} (a b : A) → (occupied_by m.versions m.used i ≡ true → chosen i ≡ true → ⊥) → pick (both (ltb i m.used) (goes chosen m i)) a b ≡ b
-    not-gone a b h = by_test (λ (t : Bool). both (ltb i m.used) (goes chosen m i) ≡ t → pick t a b ≡ b) _ (λ _ e. absurd (both-are e)) (λ _ _. refl) refl
+    not_gone : {A : Type 0} (a b : A) → (occupied_by m.versions m.used i ≡ true → chosen i ≡ true → ⊥) → pick (both (ltb i m.used) (goes chosen m i)) a b ≡ b
+    not_gone a b h = by_test (λ (t : Bool). both (ltb i m.used) (goes chosen m i) ≡ t → pick t a b ≡ b) _ (λ _ e. absurd (both_are e)) (λ _ _. refl) refl
       where
-        both-are : both (ltb i m.used) (goes chosen m i) ≡ true → ⊥
-        both-are e = let g = both_true _ (chosen i) (both_true (ltb i m.used) _ e).1 in h g.0 g.1
+        both_are : both (ltb i m.used) (goes chosen m i) ≡ true → ⊥
+        both_are e = let g = both_true _ (chosen i) (both_true (ltb i m.used) _ e).1 in h g.0 g.1
 
-    struck-dead : chosen i ≡ true → Live end k → ⊥
-    struck-dead e a = go (ℕ_discrete (m.versions i % 2) 1)
+    struck_dead : chosen i ≡ true → Live end k → ⊥
+    struck_dead e a = go (ℕ_discrete (m.versions i % 2) 1)
       where
         low : i < m.used
         low = omega (arith, a.low, (left chosen m m.used).used)
@@ -103,18 +103,18 @@ module _ (chosen : ℕ → Bool) (m : Machine) where
             let rises : end.versions i ≡ rise (m.versions i) = (left chosen m m.used).versions i ∙ simp (lt-ltb i m.used low, eq-eqb _ _ o, e) in
             omega (arith, odd, ap (λ (x : ℕ). x % 2) rises, rise_even (m.versions i) o)
         go (no n) =
-            let stays = (left chosen m m.used).versions i ∙ not-gone _ _ (λ o _. n (occupied_is m.versions m.used i o).1) in
+            let stays = (left chosen m m.used).versions i ∙ not_gone _ _ (λ o _. n (occupied_is m.versions m.used i o).1) in
             n (ap (λ (x : ℕ). x % 2) (sym stays) ∙ odd)
 
     kept : chosen i ≡ false → look_on m k ≡ look_on end k
     kept e =
         let s = left chosen m m.used in
         let not_chosen : occupied_by m.versions m.used i ≡ true → chosen i ≡ true → ⊥ = λ _ q. eqb-false 0 1 refl (cc (e, q)) in
-        look_alike m end k (s.versions i ∙ not-gone _ _ not_chosen) (s.rows i ∙ not-gone _ _ not_chosen) (λ q. omega (arith, s.used)) (λ q. omega (arith, s.used))
+        look_alike m end k (s.versions i ∙ not_gone _ _ not_chosen) (s.rows i ∙ not_gone _ _ not_chosen) (λ q. omega (arith, s.used)) (λ q. omega (arith, s.used))
 
-    struck-is : struck (λ x. chosen x.index) (look_on m) k ≡ look_on end k
-    struck-is =
-        by_test (λ (t : Bool). chosen i ≡ t → pick t [] (look_on m k) ≡ look_on end k) (chosen i) (λ _ e. sym (look_dead end k (struck-dead e))) (λ _ e. kept e) refl
+    struck_is : struck (λ x. chosen x.index) (look_on m) k ≡ look_on end k
+    struck_is =
+        by_test (λ (t : Bool). chosen i ≡ t → pick t [] (look_on m k) ≡ look_on end k) (chosen i) (λ _ e. sym (look_dead end k (struck_dead e))) (λ _ e. kept e) refl
 
   pub all_chosen : Headed end → Becomes m (all_removed chosen m.versions m.used m.used) (struck (λ x. chosen x.index) (look_on m)) end
-  all_chosen z = record { path = chosen-path m.used; has = fun_ext struck-is; slots = same_slots m end z (left chosen m m.used).used }
+  all_chosen z = record { path = chosen_path m.used; has = fun_ext struck_is; slots = same_slots m end z (left chosen m m.used).used }

@@ -41,8 +41,8 @@ module _ (h : History) where
   m = (so_far h).machine
 
   -- what leads from the first machine's book to the last one's leads from the first look to the last
-  looks-lead : (f : Book → Book) → f (look_on (opening h)) ≡ look_on m → (k : Key) → looked (now h) k ≡ f (looked h.first) k
-  looks-lead f e k =
+  looks_lead : (f : Book → Book) → f (look_on (opening h)) ≡ look_on m → (k : Key) → looked (now h) k ≡ f (looked h.first) k
+  looks_lead f e k =
       ap (λ (book : Book). book k) (looked_is (now h) m (so_far h).stands ∙ sym e ∙ ap f (sym (looked_is h.first (opening h) (opens h))))
 
   -- not live again: its slot has been filled again too few times
@@ -60,8 +60,8 @@ demand_3 =
     record {
       start_begins = λ l r hd u. record { by = start; links = l; rows = r; header = hd; unrefused = u; leaves = refl };
       rebuild_begins = λ l r hd bytes u. record { by = rebuild bytes; links = l; rows = r; header = hd; unrefused = u; leaves = refl };
-      keys_reckoned = λ h. looks-lead h (λ (book : Book). reckoned book h.calls (heard h)) (so_far h).has;
-      events_tell = λ h. looks-lead h (all_told (happened h)) (all_told_lem (opening h) (happened h) (m h) (so_far h).path);
+      keys_reckoned = λ h. looks_lead h (λ (book : Book). reckoned book h.calls (heard h)) (so_far h).has;
+      events_tell = λ h. looks_lead h (all_told (happened h)) (all_told_lem (opening h) (happened h) (m h) (so_far h).path);
       removed_row = λ h. remove_gives_back (now h) (m h) (so_far h).stands;
       drained_row = λ h. drain_gives_back (now h) (m h) (so_far h).stands;
       shaped = λ h. (so_far h).stands.shaped;

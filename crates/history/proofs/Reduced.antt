@@ -74,9 +74,9 @@ module _ (t : Table) (m : Machine) (s : Shows t.links t.rows t.header m) where
   fronts = subst (λ (x : Machine). Fronts x.versions x.used x.fronts) s.same (linked t.links t.header s.sound).fronts
 
   -- insert: a new slot only where no other is vacant, else the vacant slot at the first run's back
-  grown-hands : (side : List ℕ) → place m ≡ 0 → Hands m (record { index = m.used; version = 1 }) side (grown_by m side).machine
+  grown_hands : (side : List ℕ) → place m ≡ 0 → Hands m (record { index = m.used; version = 1 }) side (grown_by m side).machine
   unfolding grown_by
-  grown-hands side e =
+  grown_hands side e =
       record {
         low = omega arith;
         past_zero = z.positive;
@@ -89,10 +89,10 @@ module _ (t : Table) (m : Machine) (s : Shows t.links t.rows t.header m) where
         used = omega arith;
       }
 
-  filled-hands : (side : List ℕ) → place m ≢ 0 →
+  filled_hands : (side : List ℕ) → place m ≢ 0 →
       Hands m (record { index = place m; version = with_bit (m.versions (place m)) }) side (filled_by m side (place m)).machine
   unfolding filled_by
-  filled-hands side n =
+  filled_hands side n =
       let run = place_run m.versions m.used m.fronts fronts in
       let even = run.vacant (place m) run.ordered (omega arith) in
       record {
@@ -108,29 +108,29 @@ module _ (t : Table) (m : Machine) (s : Shows t.links t.rows t.header m) where
       }
 
   -- a call that its number turns down, where nothing happens, or whose step happens
-  unless-tells : (c : Call) (n : ℕ) (x : Step) → Tells c (stays m (refused n)) → (n ≡ 0 → Tells c x) → Tells c (step_unless m n x)
-  unless-tells c n x still h = by_pick (Tells c) (eqb n 0) x (stays m (refused n)) (λ e. h (eqb-true n 0 e)) (λ _. still)
+  unless_tells : (c : Call) (n : ℕ) (x : Step) → Tells c (stays m (refused n)) → (n ≡ 0 → Tells c x) → Tells c (step_unless m n x)
+  unless_tells c n x still h = by_pick (Tells c) (eqb n 0) x (stays m (refused n)) (λ e. h (eqb-true n 0 e)) (λ _. still)
 
   pub insert_reduces : (side : List ℕ) → Reduces t m (insert side)
   unfolding insert_on grown_by filled_by
   insert_reduces side =
       reduced (insert side) (insert_on m side) (insert_does _ _ _ m s side)
-      (unless-tells (insert side) (insert_number_on m side) _ (nothing m z)
+      (unless_tells (insert side) (insert_number_on m side) _ (nothing m z)
       (λ _. by_pick (Tells (insert side)) (eqb (place m) 0) (grown_by m side) (filled_by m side (place m))
-      (λ e. one_event m z _ _ (grown-hands side (eqb-true _ _ e)))
-      (λ e. one_event m z _ _ (filled-hands side (eqb-false _ _ e)))))
+      (λ e. one_event m z _ _ (grown_hands side (eqb-true _ _ e)))
+      (λ e. one_event m z _ _ (filled_hands side (eqb-false _ _ e)))))
 
   pub remove_reduces : (k : Key) → Reduces t m (remove k)
   unfolding remove_on
   remove_reduces k =
       reduced (remove k) (remove_on m k) (remove_does _ _ _ m s k)
-      (unless-tells (remove k) (key_number_on passes m k) (taken_out m k) (nothing m z)
+      (unless_tells (remove k) (key_number_on passes m k) (taken_out m k) (nothing m z)
       (λ e. one_event m z (removed k) _ (freed_removes m k (passes_live m k e))))
 
   -- a row written through its live key, in place and by replace
-  written-writes : (k : Key) (row : List ℕ) → Live m k → Writes m k row (written m k.index row)
+  written_writes : (k : Key) (row : List ℕ) → Live m k → Writes m k row (written m k.index row)
   unfolding written
-  written-writes k row a = record { live = a; versions = refl; rows = refl; used = refl }
+  written_writes k row a = record { live = a; versions = refl; rows = refl; used = refl }
 
   pub write_reduces : (k : Key) (row : Row) → Reduces t m (write k row)
   write_reduces k row _ = go (ℕ_discrete (key_number t.links t.rows t.header k) 0)
@@ -149,15 +149,15 @@ module _ (t : Table) (m : Machine) (s : Shows t.links t.rows t.header m) where
       go (yes e) =
           let alive = passes_live m k (sym (key_number_is _ _ _ m s k) ∙ e) in
           leaves _ _ (written_live _ _ _ k row e) (written_shows _ _ _ m s k.index row.words alive.low row.eight) done (ap of_number e)
-          (one_event m z (wrote k row.words) _ (written-writes k row.words alive))
+          (one_event m z (wrote k row.words) _ (written_writes k row.words alive))
       go (no n) = leaves _ m (written_none _ _ _ k row n) s (refused (key_number t.links t.rows t.header k)) (simp (ne_eqb _ 0 n)) (nothing m z)
 
   pub replace_reduces : (k : Key) (side : List ℕ) → Reduces t m (replace k side)
   unfolding replace_on
   replace_reduces k side =
       reduced (replace k side) (replace_on m k side) (replace_does _ _ _ m s k side)
-      (unless-tells (replace k side) (key_number_on (side_number passes (length side) row_words) m k) _ (nothing m z)
-      (λ e. one_event m z (wrote k side) _ (written-writes k side (live_is m k (key_live _ m k e).1))))
+      (unless_tells (replace k side) (key_number_on (side_number passes (length side) row_words) m k) _ (nothing m z)
+      (λ e. one_event m z (wrote k side) _ (written_writes k side (live_is m k (key_live _ m k e).1))))
 
   -- the drain step removes the lowest live slot
   pub lowest_key : live_of m ≢ 0 → Live m (key_of m (lowest m))
@@ -171,22 +171,22 @@ module _ (t : Table) (m : Machine) (s : Shows t.links t.rows t.header m) where
       (λ e. one_event m z (removed (key_of m (lowest m))) _ (freed_removes m (key_of m (lowest m)) (lowest_key (eqb-false _ _ e)))))
 
   -- clear and retain remove the chosen
-  chosen-tells : (chosen : ℕ → Bool) →
+  chosen_tells : (chosen : ℕ → Bool) →
       Becomes m (chosen_removed chosen t) (struck (λ k. chosen k.index) (look_on m)) (remove_chosen_on chosen m.used m).machine
-  chosen-tells chosen =
+  chosen_tells chosen =
       subst (λ (es : List Event). Becomes m es (struck (λ k. chosen k.index) (look_on m)) (remove_chosen_on chosen m.used m).machine)
       (sym (ap (λ (x : Machine). all_removed chosen x.versions x.used x.used) s.same))
       (all_chosen chosen m (headed _ _ _ _ (chosen_does chosen _ _ _ m s m.used).shows))
 
   pub clear_reduces : Reduces t m clear
   unfolding clear_on
-  clear_reduces = reduced clear (clear_on m) (clear_does _ _ _ m s) (chosen-tells all)
+  clear_reduces = reduced clear (clear_on m) (clear_does _ _ _ m s) (chosen_tells all)
 
   pub retain_reduces : (bytes : List ℕ) → Reduces t m (retain bytes)
   unfolding retain_on
   retain_reduces bytes =
       reduced (retain bytes) (retain_on m bytes) (retain_does _ _ _ m s bytes)
-      (unless-tells (retain bytes) (side_number passes (length bytes) m.used) _ (nothing m z) (λ _. chosen-tells (struck_by bytes)))
+      (unless_tells (retain bytes) (side_number passes (length bytes) m.used) _ (nothing m z) (λ _. chosen_tells (struck_by bytes)))
 
   -- where the table is left as it was, nothing happened
   unmoved : (c : Call) → next t c ≡ t → Becomes m (happening t c (answer t c)) (noted c (answer t c) (look_on m)) m → Happened t m c

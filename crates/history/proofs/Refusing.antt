@@ -30,14 +30,14 @@ module _ (t : Table) (m : Machine) (s : Shows t.links t.rows t.header m) where
   neither : (c : Call) (ks : List ℕ) → Only ks (answer t c).number → one_of (0 ∷ ks) damaged ≡ false → one_of (0 ∷ ks) full ≡ false → Numbers t c
   neither c ks n d f = record { never_2 = never ks _ damaged n d; full_only = λ e. absurd (never ks _ full n f e) }
 
-  sound-neither : (c : Call) (ks : List ℕ) → GivesOnly ks (rule c) → one_of (0 ∷ ks) damaged ≡ false → one_of (0 ∷ ks) full ≡ false → Numbers t c
-  sound-neither c ks o = neither c ks (o t.links t.rows t.header s.shaped s.sound)
+  sound_neither : (c : Call) (ks : List ℕ) → GivesOnly ks (rule c) → one_of (0 ∷ ks) damaged ≡ false → one_of (0 ∷ ks) full ≡ false → Numbers t c
+  sound_neither c ks o = neither c ks (o t.links t.rows t.header s.shaped s.sound)
 
   by_key : (k : Key) → Only (even_version ∷ not_live ∷ []) (of_number (key_number t.links t.rows t.header k)).number
   by_key k = number_only _ _ (key_number_only t.links t.rows t.header s.shaped s.sound k)
 
-  insert-numbers : (side : List ℕ) → Numbers t (insert side)
-  insert-numbers side =
+  insert_numbers : (side : List ℕ) → Numbers t (insert side)
+  insert_numbers side =
       record {
         never_2 = never _ _ damaged (insert_only side _ _ _ s.shaped s.sound) refl;
         full_only = λ e.
@@ -51,13 +51,13 @@ module _ (t : Table) (m : Machine) (s : Shows t.links t.rows t.header m) where
   numbers (begin (rebuild bytes)) = neither (begin (rebuild bytes)) _ (number_given t (begin (rebuild bytes))) refl refl
   numbers (ask (number k)) = neither (ask (number k)) _ (by_key k) refl refl
   numbers (ask (look k)) = neither (ask (look k)) _ (by_key k) refl refl
-  numbers (ask (hop c)) = sound-neither (ask (hop c)) _ (hop_only c) refl refl
-  numbers (ask check) = sound-neither (ask check) _ check_only refl refl
-  numbers (ask room) = sound-neither (ask room) _ room_only refl refl
-  numbers (insert side) = insert-numbers side
-  numbers (remove k) = sound-neither (remove k) _ (remove_only k) refl refl
+  numbers (ask (hop c)) = sound_neither (ask (hop c)) _ (hop_only c) refl refl
+  numbers (ask check) = sound_neither (ask check) _ check_only refl refl
+  numbers (ask room) = sound_neither (ask room) _ room_only refl refl
+  numbers (insert side) = insert_numbers side
+  numbers (remove k) = sound_neither (remove k) _ (remove_only k) refl refl
   numbers (write k row) = neither (write k row) _ (by_key k) refl refl
-  numbers (replace k side) = sound-neither (replace k side) _ (replace_only k side) refl refl
-  numbers drain = sound-neither drain _ drain_only refl refl
-  numbers clear = sound-neither clear _ clear_only refl refl
-  numbers (retain bytes) = sound-neither (retain bytes) _ (retain_only bytes) refl refl
+  numbers (replace k side) = sound_neither (replace k side) _ (replace_only k side) refl refl
+  numbers drain = sound_neither drain _ drain_only refl refl
+  numbers clear = sound_neither clear _ clear_only refl refl
+  numbers (retain bytes) = sound_neither (retain bytes) _ (retain_only bytes) refl refl

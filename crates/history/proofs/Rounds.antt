@@ -59,18 +59,18 @@ module _ (row : Row) (lent : ℕ) where
   unfolding put
   live v o = record { low = omega arith; odd = o; same = refl }
 
-  first-filled : 2 ≤ lent → insert_on (start_on lent).machine row.words ≡ filled 1
+  first_filled : 2 ≤ lent → insert_on (start_on lent).machine row.words ≡ filled 1
   unfolding insert_on insert_number_on side_number ◌▸◌ grown_by back_within
-  first-filled two = simp (eq-eqb _ _ row.eight, ne_eqb 1 lent (λ e. omega arith))
+  first_filled two = simp (eq-eqb _ _ row.eight, ne_eqb 1 lent (λ e. omega arith))
 
-  fills-again : (v : ℕ) → v % 2 ≡ 0 → insert_on (alone v zero_row) row.words ≡ filled (with_bit v)
+  fills_again : (v : ℕ) → v % 2 ≡ 0 → insert_on (alone v zero_row) row.words ≡ filled (with_bit v)
   unfolding insert_on insert_number_on side_number ◌▸◌ filled_by back_within put
-  fills-again v e = simp (eq-eqb _ _ row.eight, eq-eqb _ _ e, put_again)
+  fills_again v e = simp (eq-eqb _ _ row.eight, eq-eqb _ _ e, put_again)
 
-  empties-again : (v : ℕ) → v % 2 ≡ 1 →
+  empties_again : (v : ℕ) → v % 2 ≡ 1 →
       remove_on (alone v row.words) (key 1 v) ≡ record { answer = keyed (key 1 v); row = row.words; machine = alone (rise v) zero_row }
   unfolding remove_on freed_on fronts_after put
-  empties-again v o = simp (live_passes (alone v row.words) (key 1 v) (live v o), put_again)
+  empties_again v o = simp (live_passes (alone v row.words) (key 1 v) (live v o), put_again)
 
   -- calls that see slot 1 emptied n times, and leave the row there under the version v
   record Leaves (t : Table) (cs : List Call) (n v : ℕ) : Type 0 where
@@ -78,14 +78,14 @@ module _ (row : Row) (lent : ℕ) where
     count : seen 1 (events t cs) ≡ n
     stands : Stands (after t cs) (alone v row.words)
 
-  rounds-leave : (n v : ℕ) → v % 2 ≡ 1 → (t : Table) → Stands t (alone v row.words) → Leaves t (rounds row n v) n (refilled_times n v)
+  rounds_leave : (n v : ℕ) → v % 2 ≡ 1 → (t : Table) → Stands t (alone v row.words) → Leaves t (rounds row n v) n (refilled_times n v)
   unfolding rounds refilled_times
-  rounds-leave zero v o t s = record { within = tt; count = refl; stands = s }
-  rounds-leave (suc n) v o t s =
+  rounds_leave zero v o t s = record { within = tt; count = refl; stands = s }
+  rounds_leave (suc n) v o t s =
       let u = next t (remove (key 1 v)) in
-      let d = subst (Does (outcome t (remove (key 1 v)))) (empties-again v o) (remove_does _ _ _ _ s (key 1 v)) in
-      let e = subst (Does (outcome u (insert row.words))) (fills-again (rise v) (rise_even v o)) (insert_does _ _ _ _ d.shows row.words) in
-      let r = rounds-leave n (refilled v) (omega arith) (next u (insert row.words)) e.shows in
+      let d = subst (Does (outcome t (remove (key 1 v)))) (empties_again v o) (remove_does _ _ _ _ s (key 1 v)) in
+      let e = subst (Does (outcome u (insert row.words))) (fills_again (rise v) (rise_even v o)) (insert_does _ _ _ _ d.shows row.words) in
+      let r = rounds_leave n (refilled v) (omega arith) (next u (insert row.words)) e.shows in
       record {
         within = (tt, (tt, r.within));
         count = simp (d.answer, e.answer, alike_same 1 1 refl) (omega (arith, r.count));
@@ -101,25 +101,25 @@ module _ (l r : List ℕ) (hd : Header) (ok : lent_number (length l) (length r) 
   abbrev calls : ℕ → List Call
   calls n = insert row.words ∷ rounds row n 1
 
-  calls-leave : (n : ℕ) → Leaves row (lent_of l) t (calls n) n (refilled_times n 1)
-  calls-leave n =
+  calls_leave : (n : ℕ) → Leaves row (lent_of l) t (calls n) n (refilled_times n 1)
+  calls_leave n =
       let begun = (start_does l r hd ok).shows in
-      let d = subst (Does (outcome t (insert row.words))) (first-filled row (lent_of l) two) (insert_does _ _ _ _ begun row.words) in
-      let e = rounds-leave row (lent_of l) n 1 refl (next t (insert row.words)) d.shows in
+      let d = subst (Does (outcome t (insert row.words))) (first_filled row (lent_of l) two) (insert_does _ _ _ _ begun row.words) in
+      let e = rounds_leave row (lent_of l) n 1 refl (next t (insert row.words)) d.shows in
       record { within = (tt, e.within); count = simp d.answer (omega (arith, e.count)); stands = e.stands }
 
   pub rounds_begun : Begun t
   rounds_begun = start_begins l r hd ok
 
   pub rounds_within : (n : ℕ) → Within t (calls n)
-  rounds_within n = (calls-leave n).within
+  rounds_within n = (calls_leave n).within
 
   pub rounds_seen : (n : ℕ) → seen 1 (events t (calls n)) ≡ n
-  rounds_seen n = (calls-leave n).count
+  rounds_seen n = (calls_leave n).count
 
   pub comes_back : looked (after t (calls round)) (key 1 1) ≡ row.words
   unfolding put
   comes_back =
       let m : ℕ → Machine = λ v. alone row (lent_of l) v row.words in
-      let s = subst (λ (v : ℕ). Stands (after t (calls round)) (m v)) (comes_round 1 refl (omega arith)) (calls-leave round).stands in
+      let s = subst (λ (v : ℕ). Stands (after t (calls round)) (m v)) (comes_round 1 refl (omega arith)) (calls_leave round).stands in
       look_is _ _ _ _ s (key 1 1) ∙ look_live (m 1) (key 1 1) (live row (lent_of l) 1 refl)

@@ -1,4 +1,6 @@
 // The map under one name: every public call, and every type and number that a caller meets.
+#![tactic(auto)]
+
 pub use access::{look, look_mut, replace};
 pub use clear::clear;
 pub use drain_step::drain_step;

@@ -1,5 +1,7 @@
 // The C surface: every call of the face as a function that C can call, over slices and numbers, each with one flat answer. include/hop.h is its
 // header file. look_mut has no function here, since no reference goes back over extern "C": hop_row of the header file stands for it.
+#![tactic(auto)]
+
 ghost use Rattle.std.specs.Prelude.{◌≡◌};
 ghost use Rattle.rules.specs.Start.{start_rule, room_rule};
 ghost use Rattle.rules.specs.Access.{look_row_rule, replace_rule};

@@ -1,4 +1,6 @@
 // The hop step: from a cursor to the next live slot. hop.rs 1199-1216, and 1227-1241 for the end at used
+#![tactic(auto)]
+
 ghost use Rattle.std.specs.Prelude.{◌≡◌, true, ◌<◌, eqb};
 ghost use Rattle.rules.specs.Choice.{pick};
 ghost use Rattle.rules.specs.Words.{vacant_at, occupied_at};

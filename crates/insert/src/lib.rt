@@ -1,5 +1,7 @@
 // Insert: first every refusal, by reading alone (followed); then one of three steps. hop.rs 426-487
 // The steps' counts grow by one in 32 bits: what they ask of their caller is that there is room.
+#![tactic(auto)]
+
 ghost use Rattle.std.specs.Prelude.{◌≡◌, ◌-◌, ◌<◌, ◌^◌};
 ghost use Rattle.rules.specs.Words.{with_bit};
 ghost use Rattle.rules.specs.Values.{inserted};

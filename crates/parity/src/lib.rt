@@ -1,5 +1,7 @@
 // What the parity of the versions tells: where a run of vacant slots starts, where it ends, how many runs there are, and how many
 // slots are occupied.
+#![tactic(auto)]
+
 ghost use Rattle.std.specs.Prelude.{◌≡◌};
 ghost use Rattle.rules.specs.Choice.{pick, count_below};
 ghost use Rattle.rules.specs.Words.{is_odd, version_at};

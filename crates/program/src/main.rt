@@ -1,6 +1,8 @@
 // The command program: a command stream of any length from standard input, its replies to standard output. The map is `hop`, the stream is
 // `stream`; here is only what reads and writes. A main of Rattle hands back no exit status: what fails is said on standard error. A pipe that
 // nobody reads any more ends the program by its signal, as it ends any program.
+#![tactic(auto)]
+
 ghost use Rattle.std.specs.Prelude.{◌≡◌, ◌+◌, ◌≤◌, ◌<◌, ◌^◌, length, take};
 ghost use Rattle.rules.specs.Start.{start_rule};
 ghost use Rattle.history.specs.Histories.{left};

@@ -1,5 +1,7 @@
 // Rebuild: versions and rows that another hand put in place become a map. First every refusal, by reading alone (presence);
 // then the rows of vacant slots are cleared and the slots linked anew (relink). hop.rs 1379-1404 and 1417-1472
+#![tactic(auto)]
+
 mod presence;
 
 ghost use Rattle.std.specs.Prelude.{◌≡◌};

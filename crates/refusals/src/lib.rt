@@ -1,4 +1,6 @@
 // The chains of refusals, segment by segment, as in rules/specs/Refusals.
+#![tactic(auto)]
+
 ghost use Rattle.std.specs.Prelude.{◌≡◌};
 ghost use Rattle.rules.specs.Choice.{both};
 ghost use Rattle.rules.specs.Refusals.{◌▸◌, damaged, astray, lent_number, header_number, shape_number, side_number, zero_number, live_key, live_number, entry_number, side_entry_number};

@@ -1,5 +1,7 @@
 // Remove: first every refusal, by reading alone (followed); then the slot joins the chain of vacant runs (chain), its version rises
 // and its row goes out. hop.rs 492-556 and 570-578
+#![tactic(auto)]
+
 ghost use Rattle.std.specs.Prelude.{◌≡◌, ◌<◌};
 ghost use Rattle.rules.specs.Words.{zero_row};
 ghost use Rattle.rules.specs.Values.{removed};

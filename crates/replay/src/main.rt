@@ -1,5 +1,7 @@
 // The fixed list, replayed: standard input is the list without answers, standard output the list with the answers of the map. docs/LIST.md says
 // its language. What fails is said on standard error.
+#![tactic(auto)]
+
 mod calling;
 mod language;
 mod settings;

@@ -1,4 +1,6 @@
 // Retain: the whole soundness check, then the scan. hop.rs 603-631
+#![tactic(auto)]
+
 ghost use Rattle.std.specs.Prelude.{◌≡◌};
 ghost use Rattle.rules.specs.Values.{retained};
 ghost use Rattle.rules.specs.Retain.{retain_number, retain_rule};

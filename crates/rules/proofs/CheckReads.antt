@@ -18,15 +18,15 @@ module _ (used : ℕ) (l l' : List ℕ) (g : AgreeTo (used * link_words) l l') w
   unfolding ends_test
   same_ends = simp (same_versions used l l' g, same_link used l l' g)
 
-  same-circle : (n x : ℕ) → circle_test l used n x ≡ circle_test l' used n x
+  same_circle : (n x : ℕ) → circle_test l used n x ≡ circle_test l' used n x
   unfolding circle_test
-  same-circle zero x = refl
-  same-circle (suc n) x = simp (same_versions used l l' g, same_link used l l' g, same-circle n)
+  same_circle zero x = refl
+  same_circle (suc n) x = simp (same_versions used l l' g, same_link used l l' g, same_circle n)
 
 same_sound : (hd : Header) (l l' : List ℕ) → AgreeTo (hd.used * link_words) l l' → (n : ℕ) → sound_number n l hd ≡ sound_number n l' hd
 unfolding sound_number sound_test
 same_sound hd l l' g n =
-    simp (same_versions hd.used l l' g, same_link hd.used l l' g, same_ends hd.used l l' g, same-circle hd.used l l' g)
+    simp (same_versions hd.used l l' g, same_link hd.used l l' g, same_ends hd.used l l' g, same_circle hd.used l l' g)
 
 -- after any number so far that reads no more
 pub sound_number_never_reads : (hd : Header) (number : List ℕ → List ℕ → ℕ) → AnswersAlike hd.used number →

@@ -48,18 +48,18 @@ module _ (hd : Header) (l l' r r' : List ℕ) (g : AgreeBelow hd.used l l' r r')
   unfolding shape_number
   same_shape = simp (g.links.lengths, g.rows.lengths)
 
-  same-zero : (k : ℕ) → zero_number k l hd ≡ zero_number k l' hd
+  same_zero : (k : ℕ) → zero_number k l hd ≡ zero_number k l' hd
   unfolding zero_number
-  same-zero k = simp (same_link hd.used l l' g.links)
+  same_zero k = simp (same_link hd.used l l' g.links)
 
   pub same_entry : entry_number l r hd ≡ entry_number l' r' hd
   unfolding entry_number
-  same_entry = same-zero (shape_number l r hd) ∙ ap (λ (k : ℕ). zero_number k l' hd) same_shape
+  same_entry = same_zero (shape_number l r hd) ∙ ap (λ (k : ℕ). zero_number k l' hd) same_shape
 
   pub same_side_entry : (side n : ℕ) → side_entry_number l r hd side n ≡ side_entry_number l' r' hd side n
   unfolding side_entry_number
   same_side_entry side n =
-      same-zero (side_number (shape_number l r hd) side n) ∙ ap (λ (k : ℕ). zero_number (side_number k side n) l' hd) same_shape
+      same_zero (side_number (shape_number l r hd) side n) ∙ ap (λ (k : ℕ). zero_number (side_number k side n) l' hd) same_shape
 
   pub same_live : (k : ℕ) (key : Key) → live_number k l hd key ≡ live_number k l' hd key
   unfolding live_number live_key

@@ -21,10 +21,10 @@ use Rattle.rules.proofs.CheckReads.{sound_number_never_reads}
 
 -- slot i goes if it is live and chosen, under the key that it has
 module _ (chosen : ℕ → Bool) (i : ℕ) (o : Outcome) where
-  if-alike : (l r : List ℕ) → AgreeBelow o.header.used o.links l o.rows r →
+  if_alike : (l r : List ℕ) → AgreeBelow o.header.used o.links l o.rows r →
       Alike o.header.used (remove_if chosen i o) (remove_if chosen i (over o l r))
   unfolding remove_if occupied_at
-  if-alike l r g =
+  if_alike l r g =
       let used = o.header.used in
       let key = key_at l used i in
       let a = removal_alike o.header key o.links l o.rows r g in
@@ -34,9 +34,9 @@ module _ (chosen : ℕ → Bool) (i : ℕ) (o : Outcome) where
       (λ _. record { answer = refl; row = refl; header = a.header; tables = rw e (known_below used _ _ e a) })
       (λ _. none_steady.alike o l r g))
 
-  if-stays : Stays o.header.used o.links o.rows (remove_if chosen i o)
+  if_stays : Stays o.header.used o.links o.rows (remove_if chosen i o)
   unfolding remove_if
-  if-stays =
+  if_stays =
       let used = o.header.used in
       let key = key_at o.links used i in
       by_pick (Stays used o.links o.rows) (both (occupied_at o.links used i) (chosen i)) _ _
@@ -51,7 +51,7 @@ chosen_steady : (chosen : ℕ → Bool) (n : ℕ) → Steady (remove_chosen chos
 unfolding remove_chosen
 chosen_steady chosen zero = none_steady
 chosen_steady chosen (suc n) =
-    then_steady (chosen_steady chosen n) record { alike = if-alike chosen n; stays = if-stays chosen n }
+    then_steady (chosen_steady chosen n) record { alike = if_alike chosen n; stays = if_stays chosen n }
 
 pub retain_never_reads : (hd : Header) (bytes : List ℕ) → NeverReads hd.used (λ l r. retain_rule l r hd bytes)
 unfolding retain_rule retain_number

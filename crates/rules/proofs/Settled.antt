@@ -60,9 +60,9 @@ settled view v o x y l m r s p q =
 
 -- a struct of an answer and a header, and one with a row between them
 module _ {A B : Type 0} (of : B → Values) (un : Values → B) (un-of : (b : B) → un (of b) ≡ b) (answer : A → B) (header : A → Header) where
-  with-header : (make : B → Header → A) → ((x : A) → make (answer x) (header x) ≡ x) →
+  with_header : (make : B → Header → A) → ((x : A) → make (answer x) (header x) ≡ x) →
       Readable A (λ x l r. plain (of (answer x)) (header x) l r)
-  with-header make made =
+  with_header make made =
       record {
         unview = λ o. make (un o.answer) o.header;
         back = λ x l r. ap (λ b. make b (header x)) (un-of (answer x)) ∙ made x;
@@ -130,13 +130,13 @@ number_back n =
 -- start, replace, rebuild, the soundness check
 pub numbered_readable : Readable Numbered numbered
 numbered_readable =
-    with-header of_number (λ v. v.number) number_back (λ x. x.number) (λ x. x.header)
+    with_header of_number (λ v. v.number) number_back (λ x. x.number) (λ x. x.header)
     (λ n hd. record { number = n; header = hd }) (λ x. refl)
 
 -- insert
 pub inserted_readable : Readable Inserted inserted
 inserted_readable =
-    with-header of_key key_of key_back (λ x. x.answer) (λ x. x.header)
+    with_header of_key key_of key_back (λ x. x.answer) (λ x. x.header)
     (λ a hd. record { answer = a; header = hd }) (λ x. refl)
 
 -- remove
@@ -154,7 +154,7 @@ shown_readable =
 -- the hop step
 pub hopped_readable : Readable Hopped hopped
 hopped_readable =
-    with-header of_hop hop_of hop_back (λ x. x.answer) (λ x. x.header)
+    with_header of_hop hop_of hop_back (λ x. x.answer) (λ x. x.header)
     (λ a hd. record { answer = a; header = hd }) (λ x. refl)
 
 -- the drain step
@@ -166,19 +166,19 @@ drained_readable =
 -- clear
 pub cleared_readable : Readable Cleared cleared
 cleared_readable =
-    with-header of_clear clear_of clear_back (λ x. x.answer) (λ x. x.header)
+    with_header of_clear clear_of clear_back (λ x. x.answer) (λ x. x.header)
     (λ a hd. record { answer = a; header = hd }) (λ x. refl)
 
 -- retain
 pub retained_readable : Readable Retained retained
 retained_readable =
-    with-header of_count count_of count_back (λ x. x.answer) (λ x. x.header)
+    with_header of_count count_of count_back (λ x. x.answer) (λ x. x.header)
     (λ a hd. record { answer = a; header = hd }) (λ x. refl)
 
 -- room
 pub roomed_readable : Readable Roomed roomed
 roomed_readable =
-    with-header of_count count_of count_back (λ x. x.answer) (λ x. x.header)
+    with_header of_count count_of count_back (λ x. x.answer) (λ x. x.header)
     (λ a hd. record { answer = a; header = hd }) (λ x. refl)
 
 -- call by call

@@ -25,7 +25,7 @@ abbrev pub word_bytes : ℕ
 word_bytes = 4
 
 abbrev pub StartsAt : Bor (List ℕ) → Bor (List ℕ) → ℕ → Type 0
-StartsAt part whole w = part.ptr ≡ (whole.ptr.0, w * word_bytes + whole.ptr.1)
+StartsAt part whole w = part.ref_ptr ≡ (whole.ref_ptr.0, w * word_bytes + whole.ref_ptr.1)
 
 -- what a look promises of its part: the words, where they lie in the row table
 pub record RowPart (l : List ℕ) (rows : Bor (List ℕ)) (hd : Header) (key : Key) (part : Bor (List ℕ)) : Type 0 where

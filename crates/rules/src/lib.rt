@@ -1,5 +1,7 @@
 // The types of the calls, by value: what goes in and what comes back. The rules of the calls are in specs/.
 // Header and key have C's layout, since the answers of the C surface hold them.
+#![tactic(auto)]
+
 pub mod steps;
 
 // The most slots that may be lent; the link words of a slot; the words of its row.
@@ -30,14 +32,14 @@ pub const BROKEN_STREAM: u32 = 9;
 
 // Slots in use, slot 0 included, and rows live.
 #[repr(C)]
-#[derive(Drop)]
+#[derive(Clone, Copy)]
 pub struct Header {
     pub used: u32,
     pub live: u32,
 }
 
 #[repr(C)]
-#[derive(Drop)]
+#[derive(Clone, Copy)]
 pub struct Key {
     pub index: u32,
     pub version: u32,
@@ -50,14 +52,14 @@ pub type Cursor = u32;
 pub type Row = [u32; ROW_WORDS];
 
 // What insert and remove answer.
-#[derive(Drop)]
+#[derive(Clone, Copy)]
 pub enum KeyAnswer {
     Keyed(Key),
     Refused(u32),
 }
 
 // What the hop step answers: the key found and the cursor to go on from.
-#[derive(Drop)]
+#[derive(Clone, Copy)]
 pub enum HopAnswer {
     Visited(Key, Cursor),
     Done,
@@ -65,7 +67,7 @@ pub enum HopAnswer {
 }
 
 // What the drain step answers.
-#[derive(Drop)]
+#[derive(Clone, Copy)]
 pub enum DrainAnswer {
     Keyed(Key),
     Done,
@@ -73,14 +75,14 @@ pub enum DrainAnswer {
 }
 
 // What clear answers.
-#[derive(Drop)]
+#[derive(Clone, Copy)]
 pub enum ClearAnswer {
     Done,
     Refused(u32),
 }
 
 // What retain and room answer.
-#[derive(Drop)]
+#[derive(Clone, Copy)]
 pub enum CountAnswer {
     Counted(u32),
     Refused(u32),

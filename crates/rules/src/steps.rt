@@ -2,7 +2,7 @@
 use crate::{Header, KeyAnswer, Row};
 
 // What insert reads before it writes: h = next(0), b = other_end(h), n = next(h).
-#[derive(Drop)]
+#[derive(Clone, Copy)]
 pub struct InsertLinks {
     pub h: u32,
     pub b: u32,
@@ -10,7 +10,7 @@ pub struct InsertLinks {
 }
 
 // The slots beside one that is removed; before and after tell whether the left and the right one are vacant.
-#[derive(Drop)]
+#[derive(Clone, Copy)]
 pub struct Beside {
     pub left: u32,
     pub right: u32,

@@ -53,9 +53,9 @@ module _ (l r : List ℕ) (hd : Header) (m : Machine) (s : Shows l r hd m) where
         shows = s;
       })
 
-  replace-number-is : (k : Key) (side : List ℕ) → replace_number l r hd k side ≡ key_number_on (side_number passes (length side) row_words) m k
+  replace_number_is : (k : Key) (side : List ℕ) → replace_number l r hd k side ≡ key_number_on (side_number passes (length side) row_words) m k
   unfolding replace_number live_number live_key key_number_on
-  replace-number-is k side =
+  replace_number_is k side =
       ap (λ (n : ℕ). live_number n l hd k) (side_alone l r hd s.shaped s.sound.zero_even.even (length side) row_words)
       ∙ ap (λ (x : Machine). key_number_on (side_number passes (length side) row_words) x k) s.same
 
@@ -76,7 +76,7 @@ module _ (l r : List ℕ) (hd : Header) (m : Machine) (s : Shows l r hd m) where
   pub replace_does : (k : Key) (side : List ℕ) → Does (replace_rule l r hd k side) (replace_on m k side)
   unfolding replace_rule replace_on side_number
   replace_does k side =
-      unless_does l r hd m s _ _ (replace-number-is k side) _ _
+      unless_does l r hd m s _ _ (replace_number_is k side) _ _
       (λ e.
       let f = key_live (side_number passes (length side) row_words) m k e in
       let low = ltb-true k.index m.used (both_true (ltb k.index m.used) _ f.1).0 in

@@ -13,26 +13,26 @@ module _ (v : ℕ → ℕ) (u : ℕ) where
   unfolding back_within
   goes_on d k h e = simp (vacant_yes v u (suc k) h e)
 
-  stops-at-end : (d k : ℕ) → u ≤ suc k → back_within v u (suc d) k ≡ k
+  stops_at_end : (d k : ℕ) → u ≤ suc k → back_within v u (suc d) k ≡ k
   unfolding back_within
-  stops-at-end d k h = simp (vacant_no v u (suc k) (λ q. absurd (omega arith)))
+  stops_at_end d k h = simp (vacant_no v u (suc k) (λ q. absurd (omega arith)))
 
-  stops-before : (d k : ℕ) → v (suc k) % 2 ≡ 1 → back_within v u (suc d) k ≡ k
+  stops_before : (d k : ℕ) → v (suc k) % 2 ≡ 1 → back_within v u (suc d) k ≡ k
   unfolding back_within
-  stops-before d k e = simp (vacant_no v u (suc k) (λ _. e))
+  stops_before d k e = simp (vacant_no v u (suc k) (λ _. e))
 
-  within-run : (f b d k : ℕ) → Run v u f b → f ≤ k → k ≤ b → k + d ≡ u → back_within v u d k ≡ b
-  within-run f b zero k r p q e = absurd (omega (arith, r.below))
-  within-run f b (suc d) k r p q e = go (ℕ_discrete k b) (dec_lt (suc k) u) (within-run f b d (suc k) r)
+  within_run : (f b d k : ℕ) → Run v u f b → f ≤ k → k ≤ b → k + d ≡ u → back_within v u d k ≡ b
+  within_run f b zero k r p q e = absurd (omega (arith, r.below))
+  within_run f b (suc d) k r p q e = go (ℕ_discrete k b) (dec_lt (suc k) u) (within_run f b d (suc k) r)
     where
       go : Dec (k ≡ b) → Dec (suc k < u) → (f ≤ suc k → suc k ≤ b → suc k + d ≡ u → back_within v u d (suc k) ≡ b) → back_within v u (suc d) k ≡ b
-      go (yes t) (no n) ih = stops-at-end d k (omega arith) ∙ t
-      go (yes t) (yes l) ih = stops-before d k (omega (arith, r.stops (omega arith), par v (suc k) (suc b) (omega arith))) ∙ t
+      go (yes t) (no n) ih = stops_at_end d k (omega arith) ∙ t
+      go (yes t) (yes l) ih = stops_before d k (omega (arith, r.stops (omega arith), par v (suc k) (suc b) (omega arith))) ∙ t
       go (no t) _ ih =
           goes_on d k (omega (arith, r.below)) (r.vacant (suc k) (omega arith) (omega arith)) ∙ ih (omega arith) (omega arith) (omega arith)
 
   pub back_of_run : (f b : ℕ) → Run v u f b → back_of v u f ≡ b
-  back_of_run f b r = within-run f b (u - f) f r (omega arith) r.ordered (omega (arith, r.below, r.ordered))
+  back_of_run f b r = within_run f b (u - f) f r (omega arith) r.ordered (omega (arith, r.below, r.ordered))
 
   -- so from a front there is a run to the back found
   pub run_from : (f : ℕ) → Front v u f → Run v u f (back_of v u f)

@@ -60,25 +60,25 @@ module _ (l r : List ℕ) (ok : lent_number (length l) (length r) ≡ 0) where
   held : holds l 1 0 ≡ true
   held = holds_below l 1 0 (omega (arith, t.some, t.links_lent)) (omega arith)
 
-  start-versions : version_at l' 1 ≡ (λ _. 0)
-  start-versions = new_version l 0 0 held ∙ put_flat (version_at l 0) 0 0 (λ k. none_read k 0)
+  start_versions : version_at l' 1 ≡ (λ _. 0)
+  start_versions = new_version l 0 0 held ∙ put_flat (version_at l 0) 0 0 (λ k. none_read k 0)
 
-  start-rows : row_at r' 1 ≡ (λ _. zero_row)
-  start-rows = row_new r 0 zero_row (row_below r 1 0 (omega (arith, t.some, t.rows_lent)) (omega arith)) refl ∙ put_flat (row_at r 0) zero_row 0 no_row
+  start_rows : row_at r' 1 ≡ (λ _. zero_row)
+  start_rows = row_new r 0 zero_row (row_below r 1 0 (omega (arith, t.some, t.rows_lent)) (omega arith)) refl ∙ put_flat (row_at r 0) zero_row 0 no_row
 
-  start-even : (i : ℕ) → version_at l' 1 i % 2 ≡ 0
-  start-even i = ap (λ (f : ℕ → ℕ). f i % 2) start-versions
+  start_even : (i : ℕ) → version_at l' 1 i % 2 ≡ 0
+  start_even i = ap (λ (f : ℕ → ℕ). f i % 2) start_versions
 
-  zero-only : (i : ℕ) → i < 1 → i ≡ 0
-  zero-only i h = omega arith
+  zero_only : (i : ℕ) → i < 1 → i ≡ 0
+  zero_only i h = omega arith
 
-  start-linked : LinkedTable l' 1 []
-  start-linked =
+  start_linked : LinkedTable l' 1 []
+  start_linked =
       record {
         fronts = record {
-          zero_even = start-even 0;
+          zero_even = start_even 0;
           positive = omega arith;
-          every = λ k f. omega (arith, alike_same k 0 (zero-only k f.below));
+          every = λ k f. omega (arith, alike_same k 0 (zero_only k f.below));
           only = λ k h. on k h (ℕ_discrete k 0);
         };
         seg = (zero_word (next_at l' 1) (next_at l 0) (new_next l 0 0 held), zero_word (prev_at l' 1) (prev_at l 0) (new_prev l 0 0 held));
@@ -93,44 +93,44 @@ module _ (l r : List ℕ) (ok : lent_number (length l) (length r) ≡ 0) where
       zero_word f g e = ap (λ (h : ℕ → ℕ). h 0) e ∙ put_same g 0 0 0 refl
 
       on : (k : ℕ) → 1 ≤ times k (0 ∷ []) → Dec (k ≡ 0) → Front (version_at l' 1) 1 k
-      on k h (yes e) = record { below = omega arith; vacant = start-even k; starts = λ j q. absurd (omega arith) }
+      on k h (yes e) = record { below = omega arith; vacant = start_even k; starts = λ j q. absurd (omega arith) }
       on k h (no n) = absurd (omega (arith, alike_other k 0 n))
 
-  start-shows : Shows l' r' fresh (start_on (lent_of l)).machine
-  start-shows =
-      subst (Shows l' r' fresh) (cc (start-versions, start-rows, length_slot l 0 0))
+  start_shows : Shows l' r' fresh (start_on (lent_of l)).machine
+  start_shows =
+      subst (Shows l' r' fresh) (cc (start_versions, start_rows, length_slot l 0 0))
       (shows l' r' fresh []
       (fits_shape l' r' fresh (same_lent l r l' r' ok (length_slot l 0 0) (length_row r 0 zero_row)) (omega arith)
       (omega (arith, t.some, length_slot l 0 0)) (omega arith))
-      start-linked (sym (odd_none (version_at l' 1) 1 (λ k _. start-even k))))
+      start_linked (sym (odd_none (version_at l' 1) 1 (λ k _. start_even k))))
 
 pub start_does : (l r : List ℕ) (hd : Header) → lent_number (length l) (length r) ≡ 0 → Does (start_rule l r hd) (start_on (lent_of l))
 unfolding start_rule unless
-start_does l r hd e = simp (eq-eqb _ 0 e) (record { answer = refl; row = refl; shows = start-shows l r e })
+start_does l r hd e = simp (eq-eqb _ 0 e) (record { answer = refl; row = refl; shows = start_shows l r e })
 
 -- rebuild: any words past its tests
 module _ (l r bytes : List ℕ) (e : rebuild_number l r bytes ≡ 0) where
   abbrev n : ℕ
   n = length bytes
 
-  rebuild-shows : Shows (relinked l n).links (cleared_rows l n n r) (relinked l n).header
+  rebuild_shows : Shows (relinked l n).links (cleared_rows l n n r) (relinked l n).header
       (rebuild_on (version_at l n) (row_at r n) n (lent_of l)).machine
   unfolding relinked vacant_at
-  rebuild-shows =
+  rebuild_shows =
       subst (Shows (relinked l n).links (cleared_rows l n n r) (rebuilt n (odd_count (version_at l n) n)))
       (cc (relinked_versions l n n, fun_ext (cleared_row l r n row_room), relinked_length l n))
       (shows (relinked l n).links (cleared_rows l n n r) (rebuilt n (odd_count (version_at l n) n)) (rising (version_at l n) n)
       (fits_shape _ _ _ (same_lent l r (relinked l n).links (cleared_rows l n n r) p.sized.may_be_lent (relinked_length l n) (cleared_length l r n n)) p.sized.some
       (omega (arith, p.sized.within, relinked_length l n))
       (odd_but_one (version_at l n) n 0 p.sized.some p.even))
-      (relinked_linked l n p.sized.some link-room p.even)
+      (relinked_linked l n p.sized.some link_room p.even)
       (ap (λ (v : ℕ → ℕ). odd_count v n) (sym (relinked_versions l n n))))
     where
       p : Tested l r bytes
       p = rebuild_passed l r bytes e
 
-      link-room : n * link_words ≤ length l
-      link-room = omega (arith, p.sized.within, p.sized.lent.links_lent)
+      link_room : n * link_words ≤ length l
+      link_room = omega (arith, p.sized.within, p.sized.lent.links_lent)
 
       row_room : n * row_words ≤ length r
       row_room = omega (arith, p.sized.within, p.sized.lent.rows_lent)
@@ -138,4 +138,4 @@ module _ (l r bytes : List ℕ) (e : rebuild_number l r bytes ≡ 0) where
   pub rebuild_does : (hd : Header) → Does (rebuild_rule l r hd bytes)
       (rebuild_on (version_at l n) (row_at r n) n (lent_of l))
   unfolding rebuild_rule unless
-  rebuild_does hd = simp (eq-eqb _ 0 e) (record { answer = refl; row = refl; shows = rebuild-shows })
+  rebuild_does hd = simp (eq-eqb _ 0 e) (record { answer = refl; row = refl; shows = rebuild_shows })

@@ -16,23 +16,23 @@ module _ (r : ℕ) where
   other : (x : ℕ) (l : List ℕ) → times r (x ∷ l) ≡ 0 → eqb x r ≡ false
   other x l h = ne_eqb x r (λ q. omega (arith, alike_same r x (sym q)))
 
-  renamed-none : (i : ℕ) (l : List ℕ) → times r l ≡ 0 → renamed r i l ≡ l
-  renamed-none i [] h = refl
-  renamed-none i (x ∷ l) h = simp (other x l h, renamed-none i l (omega arith))
+  renamed_none : (i : ℕ) (l : List ℕ) → times r l ≡ 0 → renamed r i l ≡ l
+  renamed_none i [] h = refl
+  renamed_none i (x ∷ l) h = simp (other x l h, renamed_none i l (omega arith))
 
-  without-none : (l : List ℕ) → times r l ≡ 0 → without r l ≡ l
-  without-none [] h = refl
-  without-none (x ∷ l) h = simp (other x l h, without-none l (omega arith))
+  without_none : (l : List ℕ) → times r l ≡ 0 → without r l ≡ l
+  without_none [] h = refl
+  without_none (x ∷ l) h = simp (other x l h, without_none l (omega arith))
 
   -- r stands once: ahead of it and behind it all stays
   pub renamed_at : (i : ℕ) (a b : List ℕ) → times r (a ++ r ∷ b) ≤ 1 → renamed r i (a ++ r ∷ b) ≡ a ++ i ∷ b
-  renamed_at i [] b h = simp (eq-eqb r r refl, renamed-none i b (omega (arith, alike_same r r refl)))
+  renamed_at i [] b h = simp (eq-eqb r r refl, renamed_none i b (omega (arith, alike_same r r refl)))
   renamed_at i (x ∷ a) b h =
       let n = ne_eqb x r (λ q. omega (arith, alike_same r x (sym q), times_append r a (r ∷ b), alike_same r r refl)) in
       simp (n, renamed_at i a b (omega arith))
 
   pub without_at : (a b : List ℕ) → times r (a ++ r ∷ b) ≤ 1 → without r (a ++ r ∷ b) ≡ a ++ b
-  without_at [] b h = simp (eq-eqb r r refl, without-none b (omega (arith, alike_same r r refl)))
+  without_at [] b h = simp (eq-eqb r r refl, without_none b (omega (arith, alike_same r r refl)))
   without_at (x ∷ a) b h =
       let n = ne_eqb x r (λ q. omega (arith, alike_same r x (sym q), times_append r a (r ∷ b), alike_same r r refl)) in
       simp (n, without_at a b (omega arith))

@@ -34,10 +34,10 @@ pub record Chained (v next prev other : ℕ → ℕ) (n k front last : ℕ) : Ty
 
 module _ (v : ℕ → ℕ) (n k : ℕ) where
   -- the front of slot k's run is right for the slot after it
-  next-front : (f : ℕ) → (vacant_by v n k ≡ true → f ≡ front_of v n k) → vacant_by v n (suc k) ≡ true →
+  next_front : (f : ℕ) → (vacant_by v n k ≡ true → f ≡ front_of v n k) → vacant_by v n (suc k) ≡ true →
       pick (is_front v n (suc k)) (suc k) f ≡ front_of v n (suc k)
   unfolding front_of
-  next-front f h e = go (vacant_by v n k) refl
+  next_front f h e = go (vacant_by v n k) refl
     where
       go : (t : Bool) → vacant_by v n k ≡ t → pick (is_front v n (suc k)) (suc k) f ≡ front_of v n (suc k)
       go true t = simp (front_later v n k, e, t) (h t)
@@ -71,7 +71,7 @@ chain_more v next prev n last (suc m) r s =
     rw (rising_on v n m r)
     (seg_join next' prev' 0 way f [] 0
     (seg_end next (put prev 0 last) next' prev' 0 way 0 f s (rising_once v n f)
-    (ap next' end ∙ put2_first next last f f 0 last refl (before last (rw end at (seg_last next (put prev 0 last) 0 way 0 s))))
+    (ap next' end ∙ put2_first next last f f 0 last refl (before last (subst (λ (x : ℕ). 1 ≤ times x (0 ∷ way)) end (seg_last next (put prev 0 last) 0 way 0 s))))
     (put2_first prev f last 0 f f refl (λ t. omega arith) ∙ sym end)
     (λ k h t. put2_other next last f f 0 k (λ q. t (q ∙ sym end)) (before k h))
     (λ k h. put2_other prev f last 0 f k (before k (omega arith)) (not_first k h) ∙ sym (put_other prev 0 last k (not_first k h))))
@@ -102,7 +102,7 @@ module _ (v next prev other : ℕ → ℕ) (n k front last : ℕ) (C : Chained v
   -- slot k is no back: its front, if it is one, is kept in mind
   pub pass : is_back v n k ≡ false → Chained v next prev other n (suc k) (pick (is_front v n k) k front) last
   pass e = record {
-    here = next-front v n k (pick (is_front v n k) k front) C.here;
+    here = next_front v n k (pick (is_front v n k) k front) C.here;
     seg = subst (λ (l : List ℕ). Seg next (put prev 0 last) 0 l 0) (no_more v n k e) C.seg;
     ends = λ f b r h. C.ends f b r (lower f b r h (ℕ_discrete b k));
   }
@@ -118,7 +118,7 @@ module _ (v next prev other : ℕ → ℕ) (n k front last : ℕ) (C : Chained v
   module _ (f : ℕ) (r : Run v n f k) where
     pub join : Chained v (put (put next last f) f 0) (put prev f last) (put (put other k f) f k) n (suc k) f f
     join = record {
-      here = next-front v n k f (λ _. sym (front_of_run v n r k r.ordered (omega arith)));
+      here = next_front v n k f (λ _. sym (front_of_run v n r k r.ordered (omega arith)));
       seg = rw (after v n k f r) (chain_more v next prev n last f r.front (rw (before v n k f r) at C.seg));
       ends = λ g b s h. ends g b s h (ℕ_discrete b k);
     }
@@ -150,7 +150,9 @@ module _ (v next prev other : ℕ → ℕ) (n k front last : ℕ) (C : Chained v
   last_in_use p = go (ℕ_discrete last 0)
     where
       on : 1 ≤ times last (0 ∷ fronts_below v n (edge v n k))
-      on = rw (put_same prev 0 last 0 refl) at (seg_last next (put prev 0 last) 0 (fronts_below v n (edge v n k)) 0 C.seg)
+      on =
+          subst (λ (x : ℕ). 1 ≤ times x (0 ∷ fronts_below v n (edge v n k))) (put_same prev 0 last 0 refl)
+          (seg_last next (put prev 0 last) 0 (fronts_below v n (edge v n k)) 0 C.seg)
 
       go : Dec (last ≡ 0) → last < n
       go (yes e) = omega arith

@@ -30,32 +30,32 @@ use Rattle.runs.proofs.Circles.{fronts_length, meets_all}
 record Comes (l : List ℕ) (used n x : ℕ) : Type 0 where
   over : List ℕ
   seg : Seg (next_at l used) (prev_at l used) x over 0
-  no-sooner : times 0 over ≡ 0
+  no_sooner : times 0 over ≡ 0
   fronts : (k : ℕ) → 1 ≤ times k (0 ∷ over) → Front (version_at l used) used k
   steps : suc (length over) ≡ n
 
 module _ (l : List ℕ) (used : ℕ) where
-  test-ends : ends_test l used ≡ true → Ended (version_at l used) used (other_end_at l used)
+  test_ends : ends_test l used ≡ true → Ended (version_at l used) used (other_end_at l used)
   unfolding ends_test
-  test-ends h f b r =
+  test_ends h f b r =
       let e = front_of_run _ _ r b r.ordered (omega arith) in
       let t = both_true _ _ (rw (back_yes _ _ r, e) at (test_all used _ h b r.below)) in
       (eqb-true _ _ t.0, eqb-true _ _ t.1)
 
-  ends-test : Ended (version_at l used) used (other_end_at l used) → ends_test l used ≡ true
+  ends_test_lem : Ended (version_at l used) used (other_end_at l used) → ends_test l used ≡ true
   unfolding ends_test
-  ends-test e = all_test used _ (λ i _.
+  ends_test_lem e = all_test used _ (λ i _.
       by_pick (λ (t : Bool). t ≡ true) (not (is_back (version_at l used) used i)) true _ (λ _. refl) (λ h.
       let o = e _ i (back_is _ _ i (not-false _ h)) in
       simp (eq-eqb _ _ o.0, eq-eqb _ _ o.1)))
 
-  test-circle : (n x : ℕ) → circle_test l used n x ≡ true → Comes l used n x
+  test_circle : (n x : ℕ) → circle_test l used n x ≡ true → Comes l used n x
   unfolding circle_test
-  test-circle zero x h = absurd (eqb-false 0 1 refl (cc))
-  test-circle (suc n) x h =
+  test_circle zero x h = absurd (eqb-false 0 1 refl (cc))
+  test_circle (suc n) x h =
       let t = both_true _ _ h in
       let w = both_true _ _ t.0 in
-      go (next_at l used x) refl (front_is _ _ _ w.0) (eqb-true _ _ w.1) t.1 (test-circle n _)
+      go (next_at l used x) refl (front_is _ _ _ w.0) (eqb-true _ _ w.1) t.1 (test_circle n _)
     where
       go : (y : ℕ) → next_at l used x ≡ y → Front (version_at l used) used y → prev_at l used y ≡ x
           → pick (eqb y 0) (eqb n 0) (circle_test l used n y) ≡ true → (circle_test l used n y ≡ true → Comes l used n y)
@@ -63,7 +63,7 @@ module _ (l : List ℕ) (used : ℕ) where
       go zero there front back h ih = record {
         over = [];
         seg = (there, back);
-        no-sooner = refl;
+        no_sooner = refl;
         fronts = times_each _ 0 [] front (λ k j. absurd (omega arith));
         steps = ap suc (sym (eqb-true n 0 h));
       }
@@ -73,15 +73,15 @@ module _ (l : List ℕ) (used : ℕ) where
           record {
             over = suc y ∷ c.over;
             seg = (there, back, c.seg);
-            no-sooner = omega (arith, c.no-sooner, alike_other 0 (suc y) (λ e. omega arith));
+            no_sooner = omega (arith, c.no_sooner, alike_other 0 (suc y) (λ e. omega arith));
             fronts = λ k j. times_each _ (suc y) (0 ∷ c.over) front c.fronts k (omega arith);
             steps = omega (arith, c.steps);
           }
 
-  circle-test : (n x : ℕ) → Comes l used n x → circle_test l used n x ≡ true
+  circle_test_lem : (n x : ℕ) → Comes l used n x → circle_test l used n x ≡ true
   unfolding circle_test
-  circle-test n x c =
-      subst (λ (m : ℕ). circle_test l used m x ≡ true) c.steps (follow c.over x c.seg c.no-sooner c.fronts)
+  circle_test_lem n x c =
+      subst (λ (m : ℕ). circle_test l used m x ≡ true) c.steps (follow c.over x c.seg c.no_sooner c.fronts)
     where
       follow : (over : List ℕ) (x : ℕ) → Seg (next_at l used) (prev_at l used) x over 0 → times 0 over ≡ 0
           → ((k : ℕ) → 1 ≤ times k (0 ∷ over) → Front (version_at l used) used k)
@@ -97,19 +97,19 @@ module _ (l : List ℕ) (used : ℕ) where
       )
 
   -- a circle from 0 of as many steps as there are runs, and right ends: that is a linked table
-  circle-linked : (c : Comes l used (run_count (version_at l used) used) 0) → Ended (version_at l used) used (other_end_at l used)
+  circle_linked : (c : Comes l used (run_count (version_at l used) used) 0) → Ended (version_at l used) used (other_end_at l used)
       → LinkedTable l used c.over
-  circle-linked c ends = record {
-    fronts = meets_all _ _ c.over _ _ c.seg c.no-sooner c.fronts (omega (arith, c.steps));
+  circle_linked c ends = record {
+    fronts = meets_all _ _ c.over _ _ c.seg c.no_sooner c.fronts (omega (arith, c.steps));
     seg = c.seg;
     ends = ends;
   }
 
-  linked-circle : (after : List ℕ) → LinkedTable l used after → Comes l used (run_count (version_at l used) used) 0
-  linked-circle after L = record {
+  linked_circle : (after : List ℕ) → LinkedTable l used after → Comes l used (run_count (version_at l used) used) 0
+  linked_circle after L = record {
     over = after;
     seg = L.seg;
-    no-sooner = off_zero _ _ _ L.fronts;
+    no_sooner = off_zero _ _ _ L.fronts;
     fronts = L.fronts.only;
     steps = fronts_length _ _ _ L.fronts;
   }
@@ -121,8 +121,8 @@ module _ (l : List ℕ) (hd : Header) where
       let t₁ = both_true (is_even (version_at l hd.used 0)) _ h in
       let t₂ = both_true _ _ t₁.1 in
       let t₃ = both_true _ _ t₂.1 in
-      let c = test-circle l hd.used _ 0 t₃.1 in
-      sound l hd c.over (circle-linked l hd.used c (test-ends l hd.used t₃.0)) (eqb-true _ _ t₂.0)
+      let c = test_circle l hd.used _ 0 t₃.1 in
+      sound l hd c.over (circle_linked l hd.used c (test_ends l hd.used t₃.0)) (eqb-true _ _ t₂.0)
 
   pub sound_tests : Sound l hd → sound_test l hd ≡ true
   unfolding sound_test
@@ -131,8 +131,8 @@ module _ (l : List ℕ) (hd : Header) where
       simp (
         eq-eqb _ _ s.zero_even.even,
         eq-eqb _ _ s.live_count.counted,
-        ends-test l hd.used L.ends,
-        circle-test l hd.used _ 0 (linked-circle l hd.used _ L),
+        ends_test_lem l hd.used L.ends,
+        circle_test_lem l hd.used _ 0 (linked_circle l hd.used _ L),
       )
 
   -- the same of the number: none is added exactly where the table is sound

@@ -31,10 +31,10 @@ use Rattle.runs.proofs.Removed.{removal_does}
 
 module _ (chosen : ℕ → Bool) where
   -- one slot looked at
-  if-does : (o : Outcome) (s : Tally) → Does o (stays s.machine (counted s.count)) → (i : ℕ) →
+  if_does : (o : Outcome) (s : Tally) → Does o (stays s.machine (counted s.count)) → (i : ℕ) →
       Does (remove_if chosen i o) (let t = remove_if_on chosen i s in stays t.machine (counted t.count))
   unfolding remove_if remove_if_on occupied_at
-  if-does o s d i =
+  if_does o s d i =
       let k = key_at o.links o.header.used i in
       let gone = remove_slot o.links o.rows o.header k in
       let m = s.machine in
@@ -55,23 +55,23 @@ module _ (chosen : ℕ → Bool) where
   unfolding remove_chosen remove_chosen_on
   chosen_does l r hd m s zero = record { answer = refl; row = refl; shows = s }
   chosen_does l r hd m s (suc n) =
-      if-does (remove_chosen chosen n (plain (counted 0) hd l r)) (remove_chosen_on chosen n m) (chosen_does l r hd m s n) n
+      if_does (remove_chosen chosen n (plain (counted 0) hd l r)) (remove_chosen_on chosen n m) (chosen_does l r hd m s n) n
 
 module _ (l r : List ℕ) (hd : Header) (m : Machine) (s : Shows l r hd m) where
-  whole-check : (n : ℕ) → sound_number n l hd ≡ n
-  whole-check n = sound_passes l hd n s.sound
+  whole_check : (n : ℕ) → sound_number n l hd ≡ n
+  whole_check n = sound_passes l hd n s.sound
 
   pub check_does : Does (check_rule l r hd) (check_on m)
   unfolding check_rule
   check_does =
-      unless_does l r hd m s _ 0 (whole-check _ ∙ entry_passes l r hd s.shaped s.sound.zero_even.even) _ (check_on m)
+      unless_does l r hd m s _ 0 (whole_check _ ∙ entry_passes l r hd s.shaped s.sound.zero_even.even) _ (check_on m)
       (λ _. record { answer = refl; row = refl; shows = s })
 
   -- clear, as the drain step repeated to the end, is every live slot removed in rising order
   pub clear_does : Does (clear_rule l r hd) (clear_on m)
   unfolding clear_rule clear_on
   clear_does =
-      unless_does l r hd m s _ 0 (whole-check _ ∙ entry_passes l r hd s.shaped s.sound.zero_even.even) _ (clear_on m)
+      unless_does l r hd m s _ 0 (whole_check _ ∙ entry_passes l r hd s.shaped s.sound.zero_even.even) _ (clear_on m)
       (λ _.
       subst (λ (x : Machine). Does (drain_times (hd.live + 1) (plain done hd l r)) (stays x done)) (drained_all (live_of m) m (headed l r hd m s) refl)
       (subst (λ (n : ℕ). Does (drain_times (n + 1) (plain done hd l r)) (stays (drains_on (live_of m) m) done)) (sym (live_is l r hd m s))
@@ -85,7 +85,7 @@ module _ (l r : List ℕ) (hd : Header) (m : Machine) (s : Shows l r hd m) where
       let t = remove_chosen_on (struck_by bytes) u m in pick (eqb n 0) (stays t.machine (counted t.count)) (stays m (refused n))))
       (ap (λ (x : Machine). x.used) s.same)
       (unless_does l r hd m s _ (side_number passes (length bytes) hd.used)
-      (whole-check _ ∙ side_alone l r hd s.shaped s.sound.zero_even.even (length bytes) hd.used) _ _
+      (whole_check _ ∙ side_alone l r hd s.shaped s.sound.zero_even.even (length bytes) hd.used) _ _
       (λ _. chosen_does (struck_by bytes) l r hd m s hd.used))
 
 -- a sound table of the right shape is a machine

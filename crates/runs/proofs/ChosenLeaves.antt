@@ -38,8 +38,8 @@ module _ (l r : List ℕ) (hd : Header) (m : Machine) (s : Shows l r hd m) where
     shown : Shows o.links o.rows o.header (remove_chosen_on chosen n m).machine
     shown = (chosen_does chosen l r hd m s n).shows
 
-    went-is : (i : ℕ) → both (ltb i n) (goes chosen m i) ≡ went l hd chosen n i
-    went-is i = ap (λ (x : Machine). both (ltb i n) (goes chosen x i)) (sym s.same)
+    went_is : (i : ℕ) → both (ltb i n) (goes chosen m i) ≡ went l hd chosen n i
+    went_is i = ap (λ (x : Machine). both (ltb i n) (goes chosen x i)) (sym s.same)
 
     pub chosen_used : o.header.used ≡ hd.used
     chosen_used = ap (λ (x : Machine). x.used) shown.same ∙ (left chosen m n).used ∙ ap (λ (x : Machine). x.used) (sym s.same)
@@ -48,13 +48,13 @@ module _ (l r : List ℕ) (hd : Header) (m : Machine) (s : Shows l r hd m) where
         pick (went l hd chosen n i) (rise (version_at l hd.used i)) (version_at l hd.used i)
     chosen_version i =
         ap (λ (x : Machine). x.versions i) shown.same ∙ (left chosen m n).versions i
-        ∙ ap (λ (t : Bool). pick t (rise (m.versions i)) (m.versions i)) (went-is i)
+        ∙ ap (λ (t : Bool). pick t (rise (m.versions i)) (m.versions i)) (went_is i)
         ∙ ap (λ (x : Machine). pick (went l hd chosen n i) (rise (x.versions i)) (x.versions i)) (sym s.same)
 
     pub chosen_row : (i : ℕ) → row_at o.rows o.header.used i ≡ pick (went l hd chosen n i) zero_row (row_at r hd.used i)
     chosen_row i =
         ap (λ (x : Machine). x.rows i) shown.same ∙ (left chosen m n).rows i
-        ∙ ap (λ (t : Bool). pick t zero_row (m.rows i)) (went-is i)
+        ∙ ap (λ (t : Bool). pick t zero_row (m.rows i)) (went_is i)
         ∙ ap (λ (x : Machine). pick (went l hd chosen n i) zero_row (x.rows i)) (sym s.same)
 
     pub chosen_count : o.answer.count + o.header.live ≡ hd.live

@@ -48,8 +48,8 @@ module _ (chosen : ℕ → Bool) (m : Machine) where
   not_yet : {A : Type 0} (n i : ℕ) (a b : A) → n ≤ i → pick (both (ltb i n) (goes i)) a b ≡ b
   not_yet n i a b h = simp (le-ltb i n h)
 
-  looked-at : {A : Type 0} (n i : ℕ) (a b : A) → i ≡ n → pick (both (ltb i (suc n)) (goes i)) a b ≡ pick (goes i) a b
-  looked-at n i a b e = simp (lt-ltb i (suc n) (omega arith))
+  looked_at : {A : Type 0} (n i : ℕ) (a b : A) → i ≡ n → pick (both (ltb i (suc n)) (goes i)) a b ≡ pick (goes i) a b
+  looked_at n i a b e = simp (lt-ltb i (suc n) (omega arith))
 
   no_other : {A : Type 0} (n i : ℕ) (a b : A) → i ≢ n → pick (both (ltb i (suc n)) (goes i)) a b ≡ pick (both (ltb i n) (goes i)) a b
   no_other n i a b h = go (dec_lt i n)
@@ -61,10 +61,10 @@ module _ (chosen : ℕ → Bool) (m : Machine) where
   at_slot : (i n : ℕ) → i ≡ n → goes i ≡ goes n
   at_slot i n e = ap goes e
 
-  left-gone : (n : ℕ) (s : Tally) → Left n s → (c : ℕ) → c ≡ s.count + 1 → goes n ≡ true →
+  left_gone : (n : ℕ) (s : Tally) → Left n s → (c : ℕ) → c ≡ s.count + 1 → goes n ≡ true →
       Left (suc n) (record { count = c; machine = freed_on s.machine n })
   unfolding freed_on
-  left-gone n s k c one e =
+  left_gone n s k c one e =
       record {
         versions = λ i. ver i (ℕ_discrete i n);
         rows = λ i. row i (ℕ_discrete i n);
@@ -85,17 +85,17 @@ module _ (chosen : ℕ → Bool) (m : Machine) where
           pick (both (ltb i (suc n)) (goes i)) (rise (m.versions i)) (m.versions i)
       ver i (yes t) =
           put_same s.machine.versions n (rise (s.machine.versions n)) i t ∙ ap rise same_version
-          ∙ sym (looked-at n i (rise (m.versions i)) (m.versions i) t ∙ simp (at_slot i n t ∙ e) (ap (λ (x : ℕ). rise (m.versions x)) t))
+          ∙ sym (looked_at n i (rise (m.versions i)) (m.versions i) t ∙ simp (at_slot i n t ∙ e) (ap (λ (x : ℕ). rise (m.versions x)) t))
       ver i (no t) =
           put_other s.machine.versions n (rise (s.machine.versions n)) i t ∙ k.versions i ∙ sym (no_other n i (rise (m.versions i)) (m.versions i) t)
 
       row : (i : ℕ) → Dec (i ≡ n) → put s.machine.rows n zero_row i ≡ pick (both (ltb i (suc n)) (goes i)) zero_row (m.rows i)
       row i (yes t) =
-          put_same s.machine.rows n zero_row i t ∙ sym (looked-at n i zero_row (m.rows i) t ∙ simp (at_slot i n t ∙ e))
+          put_same s.machine.rows n zero_row i t ∙ sym (looked_at n i zero_row (m.rows i) t ∙ simp (at_slot i n t ∙ e))
       row i (no t) = put_other s.machine.rows n zero_row i t ∙ k.rows i ∙ sym (no_other n i zero_row (m.rows i) t)
 
-  left-kept : (n : ℕ) (s : Tally) → Left n s → goes n ≡ false → Left (suc n) s
-  left-kept n s k e =
+  left_kept : (n : ℕ) (s : Tally) → Left n s → goes n ≡ false → Left (suc n) s
+  left_kept n s k e =
       record {
         versions = λ i. k.versions i ∙ same i (rise (m.versions i)) (m.versions i) (ℕ_discrete i n);
         rows = λ i. k.rows i ∙ same i zero_row (m.rows i) (ℕ_discrete i n);
@@ -105,7 +105,7 @@ module _ (chosen : ℕ → Bool) (m : Machine) where
       }
     where
       same : {A : Type 0} (i : ℕ) (a b : A) → Dec (i ≡ n) → pick (both (ltb i n) (goes i)) a b ≡ pick (both (ltb i (suc n)) (goes i)) a b
-      same i a b (yes t) = not_yet n i a b (omega arith) ∙ sym (looked-at n i a b t ∙ simp (at_slot i n t ∙ e))
+      same i a b (yes t) = not_yet n i a b (omega arith) ∙ sym (looked_at n i a b t ∙ simp (at_slot i n t ∙ e))
       same i a b (no t) = sym (no_other n i a b t)
 
   pub left : (n : ℕ) → Left n (remove_chosen_on chosen n m)
@@ -129,5 +129,5 @@ module _ (chosen : ℕ → Bool) (m : Machine) where
       go : (s : Tally) → Left n s → Left (suc n) (remove_if_on chosen n s)
       go s k =
           by_pick (Left (suc n)) _ _ s
-          (λ e. left-gone n s k _ (omega arith) (sym (same_test s k) ∙ e))
-          (λ e. left-kept n s k (sym (same_test s k) ∙ e))
+          (λ e. left_gone n s k _ (omega arith) (sym (same_test s k) ∙ e))
+          (λ e. left_kept n s k (sym (same_test s k) ∙ e))

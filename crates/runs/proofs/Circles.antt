@@ -95,14 +95,14 @@ module _ (v : ℕ → ℕ) (u : ℕ) (l : List ℕ) where
   pub meets_all : (n p : ℕ → ℕ) → Seg n p 0 l 0 → times 0 l ≡ 0 → ((k : ℕ) → 1 ≤ times k (0 ∷ l) → Front v u k)
       → run_count v u ≤ suc (length l) → Fronts v u l
   meets_all n p s off only few = record {
-    zero_even = zero-front.vacant;
-    positive = zero-front.below;
+    zero_even = zero_front.vacant;
+    positive = zero_front.below;
     every = λ k f. every k f (dec_le 1 (times k (0 ∷ l)));
     only = only;
   }
     where
-      zero-front : Front v u 0
-      zero-front = only 0 (omega (arith, alike_same 0 0 refl))
+      zero_front : Front v u 0
+      zero_front = only 0 (omega (arith, alike_same 0 0 refl))
 
       once : (k : ℕ) → times k (0 ∷ l) ≤ 1
       once = times_once 0 l off (seg_once n p 0 l 0 s off)

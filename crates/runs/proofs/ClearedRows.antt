@@ -26,10 +26,10 @@ module _ (l r : List ℕ) (n : ℕ) where
 
   module _ (fits : n * row_words ≤ length r) where
     -- after the slots below k
-    cleared-below : (i k : ℕ) → k ≤ n → row_at (cleared_rows l n k r) n i ≡ pick (both (ltb i k) (vacant_at l n i)) zero_row (row_at r n i)
+    cleared_below : (i k : ℕ) → k ≤ n → row_at (cleared_rows l n k r) n i ≡ pick (both (ltb i k) (vacant_at l n i)) zero_row (row_at r n i)
     unfolding cleared_rows
-    cleared-below i zero h = simp (le-ltb i 0 (omega arith))
-    cleared-below i (suc k) h = go (vacant_at l n k) refl (ℕ_discrete i k) (cleared-below i k (omega arith))
+    cleared_below i zero h = simp (le-ltb i 0 (omega arith))
+    cleared_below i (suc k) h = go (vacant_at l n k) refl (ℕ_discrete i k) (cleared_below i k (omega arith))
       where
         held : holds_row (cleared_rows l n k r) n k ≡ true
         held = row_below (cleared_rows l n k r) n k (omega (arith, cleared_length k)) h
@@ -47,7 +47,7 @@ module _ (l r : List ℕ) (n : ℕ) where
     pub cleared_row : (i : ℕ) → row_at (cleared_rows l n n r) n i ≡ pick (vacant_at l n i) zero_row (row_at r n i)
     unfolding vacant_at
     cleared_row i =
-        cleared-below i n (omega arith)
+        cleared_below i n (omega arith)
         ∙ ap (λ (t : Bool). pick t zero_row (row_at r n i)) (twice (ltb i n) (is_even (version_at l n i)))
       where
         twice : (a b : Bool) → both a (both a b) ≡ both a b

@@ -62,8 +62,8 @@ module _ (l r : List ℕ) (hd : Header) (m : Machine) (s : Shows l r hd m) where
   abbrev takenOn : Step
   takenOn = taken_out m (key_of m (lowest m))
 
-  taken-does : live_of m ≢ 0 → Does taken takenOn
-  taken-does some =
+  taken_does : live_of m ≢ 0 → Does taken takenOn
+  taken_does some =
       let w = lowest_live m (headed l r hd m s) (omega (arith, some)) in
       subst (λ (q : ℕ). Does (remove_at l r hd q) takenOn) (sym lowest_is)
       (remove_at_does l r hd m s (lowest m) (occupied_yes m.versions m.used (lowest m) w.0 w.1))
@@ -76,7 +76,7 @@ module _ (l r : List ℕ) (hd : Header) (m : Machine) (s : Shows l r hd m) where
       subst (λ (n : ℕ). Does (pick (eqb n 0) (plain done hd l r) taken) (drain_on m)) (sym live_is)
       (by_test (λ (t : Bool). Does (pick t (plain done hd l r) taken) (pick t (stays m done) takenOn)) (eqb (live_of m) 0)
       (λ _. record { answer = refl; row = refl; shows = s })
-      (λ z. taken-does (eqb-false (live_of m) 0 z))))
+      (λ z. taken_does (eqb-false (live_of m) 0 z))))
 
 -- the drain step to the end: as many steps as rows are live, and one that answers done
 pub drains_do : (n : ℕ) (o : Outcome) (m : Machine) → Shows o.links o.rows o.header m → live_of m ≡ n →

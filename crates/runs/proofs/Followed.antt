@@ -20,15 +20,15 @@ IsVacant v u k = (k < u) × (v k % 2 ≡ 0)
 
 module _ (v n p e : ℕ → ℕ) (u : ℕ) (l : List ℕ) (L : Linked v n p e u l) where
   -- every front is vacant
-  front-vacant : (k : ℕ) → Front v u k → IsVacant v u k
-  front-vacant k f = (f.below, f.vacant)
+  front_vacant : (k : ℕ) → Front v u k → IsVacant v u k
+  front_vacant k f = (f.below, f.vacant)
 
   -- next and prev of a front are in the chain
-  neighbours-listed : (k : ℕ) → Front v u k → Dec (k ≡ 0) → (1 ≤ times (n k) (0 ∷ l)) × (1 ≤ times (p k) (0 ∷ l))
-  neighbours-listed k f (yes t) =
+  neighbours_listed : (k : ℕ) → Front v u k → Dec (k ≡ 0) → (1 ≤ times (n k) (0 ∷ l)) × (1 ≤ times (p k) (0 ∷ l))
+  neighbours_listed k f (yes t) =
       subst (λ (x : ℕ). (1 ≤ times (n x) (0 ∷ l)) × (1 ≤ times (p x) (0 ∷ l))) (sym t)
       (omega (arith, seg_first n p 0 l 0 L.seg), seg_last n p 0 l 0 L.seg)
-  neighbours-listed k f (no t) =
+  neighbours_listed k f (no t) =
       let c = times_split k l (omega (arith, L.fronts.every k f, alike_other k 0 t)) in
       let s = seg_split n p 0 c.0 k c.1 0 (subst (λ (x : List ℕ). Seg n p 0 x 0) c.2 L.seg) in (
         omega (arith, seg_first n p k c.1 0 s.1, ap (times (n k)) c.2, times_append (n k) c.0 (k ∷ c.1)),
@@ -36,19 +36,19 @@ module _ (v n p e : ℕ → ℕ) (u : ℕ) (l : List ℕ) (L : Linked v n p e u 
       )
 
   -- next and prev of a front are fronts
-  next-front : (k : ℕ) → Front v u k → Front v u (n k)
-  next-front k f = L.fronts.only (n k) (neighbours-listed k f (ℕ_discrete k 0)).0
+  next_front : (k : ℕ) → Front v u k → Front v u (n k)
+  next_front k f = L.fronts.only (n k) (neighbours_listed k f (ℕ_discrete k 0)).0
 
-  prev-front : (k : ℕ) → Front v u k → Front v u (p k)
-  prev-front k f = L.fronts.only (p k) (neighbours-listed k f (ℕ_discrete k 0)).1
+  prev_front : (k : ℕ) → Front v u k → Front v u (p k)
+  prev_front k f = L.fronts.only (p k) (neighbours_listed k f (ℕ_discrete k 0)).1
 
   -- slot 0 is a front
-  zero-front : Front v u 0
-  zero-front = L.fronts.only 0 (times_head 0 l)
+  zero_front : Front v u 0
+  zero_front = L.fronts.only 0 (times_head 0 l)
 
   -- insert's h, the first front: vacant
   pub insert_h : IsVacant v u (n 0)
-  insert_h = front-vacant (n 0) (next-front 0 zero-front)
+  insert_h = front_vacant (n 0) (next_front 0 zero_front)
 
   -- its b, the back of that run: vacant, not before h, and its other_end is h
   pub insert_b : IsVacant v u (e (n 0)) × (n 0 ≤ e (n 0)) × (e (e (n 0)) ≡ n 0)
@@ -62,7 +62,7 @@ module _ (v n p e : ℕ → ℕ) (u : ℕ) (l : List ℕ) (L : Linked v n p e u 
 
   -- its n, the second front: vacant
   pub insert_n : IsVacant v u (n (n 0))
-  insert_n = front-vacant (n (n 0)) (next-front (n 0) (next-front 0 zero-front))
+  insert_n = front_vacant (n (n 0)) (next_front (n 0) (next_front 0 zero_front))
 
   -- the second front is not the first again, where the chain is not empty
   pub insert_n_not_h : n 0 ≢ 0 → n (n 0) ≢ n 0
@@ -79,7 +79,7 @@ module _ (v n p e : ℕ → ℕ) (u : ℕ) (l : List ℕ) (L : Linked v n p e u 
 
   -- remove's t, the last front: vacant
   pub remove_t : IsVacant v u (p 0)
-  remove_t = front-vacant (p 0) (prev-front 0 zero-front)
+  remove_t = front_vacant (p 0) (prev_front 0 zero_front)
 
   -- slot i = j + 1 is occupied, the slot after it is r
   module _ (j : ℕ) (low : suc j < u) (odd : v (suc j) % 2 ≡ 1) where
@@ -91,8 +91,8 @@ module _ (v n p e : ℕ → ℕ) (u : ℕ) (l : List ℕ) (L : Linked v n p e u 
     remove_right_links low-r right =
         let f : Front v u r = record { below = low-r; vacant = right; starts = λ m t. omega (arith, par v m (suc j) (omega arith)) } in
         let run = run_from L r f in (
-          front-vacant (n r) (next-front r f),
-          front-vacant (p r) (prev-front r f),
+          front_vacant (n r) (next_front r f),
+          front_vacant (p r) (prev_front r f),
           (run.below, run.vacant (e r) run.ordered (omega arith)),
           run.ordered,
         )

@@ -17,14 +17,14 @@ module _ (v v' : ℕ → ℕ) (u : ℕ) (odd' : v' u % 2 ≡ 1) (same : (k : ℕ
       omega arith
 
   -- a front was one before
-  front-before : (k : ℕ) → Front v' (suc u) k → Front v u k
-  front-before k f =
+  front_before : (k : ℕ) → Front v' (suc u) k → Front v u k
+  front_before k f =
       let low : k < u = vacant_below_lem k f.below f.vacant in
       front_kept low (same k low) (λ m e. same m (omega arith)) f
 
   -- and a front stays one
-  front-still : (k : ℕ) → Front v u k → Front v' (suc u) k
-  front-still k f =
+  front_still : (k : ℕ) → Front v u k → Front v' (suc u) k
+  front_still k f =
       let low : k < u = f.below in
       front_kept (omega arith) (sym (same k low)) (λ m e. sym (same m (omega arith))) f
 
@@ -33,14 +33,14 @@ module _ (v v' : ℕ → ℕ) (u : ℕ) (odd' : v' u % 2 ≡ 1) (same : (k : ℕ
   grown_fronts l fronts = record {
     zero_even = omega (arith, fronts.zero_even, same 0 fronts.positive);
     positive = omega arith;
-    every = λ k f. fronts.every k (front-before k f);
-    only = λ k h. front-still k (fronts.only k h);
+    every = λ k f. fronts.every k (front_before k f);
+    only = λ k h. front_still k (fronts.only k h);
   }
 
   -- a run stood before
-  run-before : (f b : ℕ) → Run v' (suc u) f b → b < u → Run v u f b
-  run-before f b run low =
-      make_run (front-before f run.front).starts run.ordered
+  run_before : (f b : ℕ) → Run v' (suc u) f b → b < u → Run v u f b
+  run_before f b run low =
+      make_run (front_before f run.front).starts run.ordered
       (λ k p q. omega (arith, run.vacant k p q, same k (omega arith))) low
       (λ h. omega (arith, run.stops (omega arith), same (suc b) h))
 
@@ -48,5 +48,5 @@ module _ (v v' : ℕ → ℕ) (u : ℕ) (odd' : v' u % 2 ≡ 1) (same : (k : ℕ
   pub grown_ends : (e e' : ℕ → ℕ) → ((k : ℕ) → k < u → e' k ≡ e k) → Ended v u e → Ended v' (suc u) e'
   grown_ends e e' others ends f b run =
       let low : b < u = vacant_below_lem b run.below (run.vacant b run.ordered (omega arith)) in
-      let old = ends f b (run-before f b run low) in
+      let old = ends f b (run_before f b run low) in
       (others f (omega (arith, run.ordered)) ∙ old.0, others b low ∙ old.1)

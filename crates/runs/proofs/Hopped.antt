@@ -53,8 +53,8 @@ module _ (l r : List ℕ) (hd : Header) (after : List ℕ) (L : LinkedTable l hd
       back_vacant : vacant_by v hd.used back ≡ true
       back_vacant = vacant_yes v hd.used back run.below (run.vacant back run.ordered (omega arith))
 
-      next-occupied : back + 1 ≢ hd.used → occupied_by v hd.used (back + 1) ≡ true
-      next-occupied n =
+      next_occupied : back + 1 ≢ hd.used → occupied_by v hd.used (back + 1) ≡ true
+      next_occupied n =
           let h : back + 1 < hd.used = omega (arith, run.below, n) in
           occupied_yes v hd.used (back + 1) h (after_run v hd.used c back run h)
 
@@ -62,7 +62,7 @@ module _ (l r : List ℕ) (hd : Header) (after : List ℕ) (L : LinkedTable l hd
           pick (eqb (back + 1) hd.used) done (pick (occupied_by v hd.used (back + 1)) (visit l hd.used (back + 1)) (refused damaged)) ≡ hop_answer_on m c
       same (yes e) = simp (eq-eqb (back + 1) hd.used e, lt-leb hd.used c f.below, occupied_no v hd.used c (λ _. f.vacant), p)
       same (no n) =
-          simp (ne_eqb (back + 1) hd.used n, lt-leb hd.used c f.below, occupied_no v hd.used c (λ _. f.vacant), p, next-occupied n)
+          simp (ne_eqb (back + 1) hd.used n, lt-leb hd.used c f.below, occupied_no v hd.used c (λ _. f.vacant), p, next_occupied n)
 
   pub hop_is : hop_from l hd c ≡ hop_answer_on m c
   unfolding hop_answer_on vacant_at occupied_at

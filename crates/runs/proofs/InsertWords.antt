@@ -78,16 +78,16 @@ module _ (l : List ℕ) (u : ℕ) (after : List ℕ) (L : LinkedTable l u after)
     has : (k : ℕ) → k < u → holds l u k ≡ true
     has k q = holds_below l u k fits q
 
-    last-linked : h ≡ b → LinkedTable (set_version (take_last l (n h)) b w) u (later after)
+    last_linked : h ≡ b → LinkedTable (set_version (take_last l (n h)) b w) u (later after)
     unfolding take_last
-    last-linked q =
+    last_linked q =
         let f = insert_n v n p e u after L in
         rw (sym q) (simp (words, has 0 (omega (arith, L.fronts.positive)), has (n h) f.0, has h (insert_h v n p e u after L).0)
         (take_last_linked v n p e u after L w odd h (later after) (begins after h first_is (λ t. some (sym q ∙ t))) (sym q)))
 
-    back-linked : (d : ℕ) → suc d ≡ b → h ≢ b → LinkedTable (set_version (take_back l h b) b w) u after
+    back_linked : (d : ℕ) → suc d ≡ b → h ≢ b → LinkedTable (set_version (take_back l h b) b w) u after
     unfolding take_back
-    back-linked d q m =
+    back_linked d q m =
         let f = insert_b v n p e u after L in
         let o : h ≤ d = omega (arith, f.1) in
         let c : b - 1 ≡ d = omega arith in
@@ -100,5 +100,5 @@ module _ (l : List ℕ) (u : ℕ) (after : List ℕ) (L : LinkedTable l u after)
     filled_linked =
         rw (sym first_is)
         (by_test (λ (t : Bool). LinkedTable (set_version (pick t (take_last l (n h)) (take_back l h b)) b w) u (pick t (later after) after)) (eqb h b)
-        (λ q. last-linked (eqb-true h b q))
-        (λ q. back-linked (b - 1) (omega arith) (eqb-false h b q)))
+        (λ q. last_linked (eqb-true h b q))
+        (λ q. back_linked (b - 1) (omega arith) (eqb-false h b q)))

@@ -54,9 +54,9 @@ module _ (l : List ℕ) (hd : Header) (after : List ℕ) (L : LinkedTable l hd.u
   x = insert_links l hd.used
 
   -- no link that an insert follows goes astray
-  run-passes : (k : ℕ) → run_number k l hd x ≡ k
+  run_passes : (k : ℕ) → run_number k l hd x ≡ k
   unfolding run_number
-  run-passes k =
+  run_passes k =
       let h = insert_h v n p e u after L in
       let b = insert_b v n p e u after L in
       skipped _ _ _ (both_if (not (eqb x.b 0)) _ (λ t.
@@ -67,9 +67,9 @@ module _ (l : List ℕ) (hd : Header) (after : List ℕ) (L : LinkedTable l hd.u
       ∙ skipped _ _ _ (not_astray l u x.b b.0.0 b.0.1)
       ∙ skipped _ _ _ (not_astray l u x.h h.0 h.1)
 
-  take-passes : (k : ℕ) → take_number k l hd x ≡ (k ▸ (both (eqb x.b 0) (eqb hd.used (lent_of l)), full))
+  take_passes : (k : ℕ) → take_number k l hd x ≡ (k ▸ (both (eqb x.b 0) (eqb hd.used (lent_of l)), full))
   unfolding take_number
-  take-passes k =
+  take_passes k =
       let f = insert_n v n p e u after L in
       let b = insert_b v n p e u after L in
       ap (λ (k : ℕ). k ▸ (both (eqb x.b 0) (eqb hd.used (lent_of l)), full))
@@ -90,50 +90,50 @@ module _ (l r : List ℕ) (hd : Header) (shape : shape_number l r hd ≡ 0) (aft
 
   -- a new slot
   module _ (room : hd.used < lent_of l) where
-    link-room : (hd.used + 1) * link_words ≤ length l
-    link-room = let s = shaped l r hd shape in omega (arith, s.lent.links_lent)
+    link_room : (hd.used + 1) * link_words ≤ length l
+    link_room = let s = shaped l r hd shape in omega (arith, s.lent.links_lent)
 
     row_room : (hd.used + 1) * row_words ≤ length r
     row_room = let s = shaped l r hd shape in omega (arith, s.lent.rows_lent)
 
-    grown-versions : version_at (new_slot l hd.used 1) (hd.used + 1) ≡ put (version_at l hd.used) hd.used 1
-    grown-versions = new_version l hd.used 1 (holds_below l (hd.used + 1) hd.used link-room (omega arith))
+    grown_versions : version_at (new_slot l hd.used 1) (hd.used + 1) ≡ put (version_at l hd.used) hd.used 1
+    grown_versions = new_version l hd.used 1 (holds_below l (hd.used + 1) hd.used link_room (omega arith))
 
-    grown-rows : row_at (set_row r hd.used side) (hd.used + 1) ≡ put (row_at r hd.used) hd.used side
-    grown-rows = row_new r hd.used side (row_below r (hd.used + 1) hd.used row_room (omega arith)) (eq-eqb (length side) row_words whole)
+    grown_rows : row_at (set_row r hd.used side) (hd.used + 1) ≡ put (row_at r hd.used) hd.used side
+    grown_rows = row_new r hd.used side (row_below r (hd.used + 1) hd.used row_room (omega arith)) (eq-eqb (length side) row_words whole)
 
-    grown-count : hd.live + 1 ≡ odd_count (version_at (new_slot l hd.used 1) (hd.used + 1)) (hd.used + 1)
-    grown-count =
+    grown_count : hd.live + 1 ≡ odd_count (version_at (new_slot l hd.used 1) (hd.used + 1)) (hd.used + 1)
+    grown_count =
         let f : hd.used + 1 ≡ suc hd.used = omega arith in
         let w = put (version_at l hd.used) hd.used 1 in
         omega (
           arith,
           counted,
-          ap (λ (g : ℕ → ℕ). odd_count g (hd.used + 1)) grown-versions,
+          ap (λ (g : ℕ → ℕ). odd_count g (hd.used + 1)) grown_versions,
           ap (odd_count w) f,
           odd_more w hd.used,
           odd_same (version_at l hd.used) w hd.used (λ k q. put_other (version_at l hd.used) hd.used 1 k (λ t. omega arith)),
           ap (λ (y : ℕ). y % 2) (put_same (version_at l hd.used) hd.used 1 hd.used refl),
         )
 
-    grown-shape : shape_number (new_slot l hd.used 1) (set_row r hd.used side) (grown hd) ≡ 0
-    grown-shape =
+    grown_shape : shape_number (new_slot l hd.used 1) (set_row r hd.used side) (grown hd) ≡ 0
+    grown_shape =
         let s = shaped l r hd shape in
         still_shaped l r (new_slot l hd.used 1) (set_row r hd.used side) hd (grown hd) shape (length_slot l hd.used 1)
         (length_row r hd.used side) (omega arith) (omega arith) (omega (arith, s.few))
 
-    grown-machine : machine_of (new_slot l hd.used 1) (set_row r hd.used side) (grown hd) after ≡ (grown_by m side).machine
+    grown_machine : machine_of (new_slot l hd.used 1) (set_row r hd.used side) (grown hd) after ≡ (grown_by m side).machine
     unfolding grown_by
-    grown-machine = cc (grown-versions, grown-rows, length_slot l hd.used 1)
+    grown_machine = cc (grown_versions, grown_rows, length_slot l hd.used 1)
 
-    new-does : Does (take_new l r hd side) (grown_by m side)
+    new_does : Does (take_new l r hd side) (grown_by m side)
     unfolding take_new grown_by
-    new-does =
+    new_does =
         record {
           answer = refl;
           row = refl;
-          shows = subst (Shows (new_slot l hd.used 1) (set_row r hd.used side) (grown hd)) grown-machine
-              (shows (new_slot l hd.used 1) (set_row r hd.used side) (grown hd) after grown-shape (grown_linked l hd.used after L link-room) grown-count);
+          shows = subst (Shows (new_slot l hd.used 1) (set_row r hd.used side) (grown hd)) grown_machine
+              (shows (new_slot l hd.used 1) (set_row r hd.used side) (grown hd) after grown_shape (grown_linked l hd.used after L link_room) grown_count);
         }
 
   -- the back of the first run
@@ -159,47 +159,47 @@ module _ (l r : List ℕ) (hd : Header) (shape : shape_number l r hd ≡ 0) (aft
     back_is : (b < hd.used) × (version_at l hd.used b % 2 ≡ 0)
     back_is = (insert_b _ _ _ _ hd.used after L).0
 
-    filled-versions : version_at l' hd.used ≡ put (version_at l hd.used) b w
-    filled-versions =
+    filled_versions : version_at l' hd.used ≡ put (version_at l hd.used) b w
+    filled_versions =
         version_put l₁ b w hd.used (holds_below l₁ hd.used b (omega (arith, fits, shortened_length l (insert_links l hd.used))) back_is.0)
         ∙ ap (λ (f : ℕ → ℕ). put f b w) (shortened_versions l hd.used (insert_links l hd.used))
 
-    filled-rows : row_at r' hd.used ≡ put (row_at r hd.used) b side
-    filled-rows = row_put r b side hd.used (row_below r hd.used b (rows_fit l r hd shape) back_is.0) (eq-eqb (length side) row_words whole)
+    filled_rows : row_at r' hd.used ≡ put (row_at r hd.used) b side
+    filled_rows = row_put r b side hd.used (row_below r hd.used b (rows_fit l r hd shape) back_is.0) (eq-eqb (length side) row_words whole)
 
-    filled-length : length l' ≡ length l
-    filled-length = length_link l₁ b 0 w ∙ shortened_length l (insert_links l hd.used)
+    filled_length : length l' ≡ length l
+    filled_length = length_link l₁ b 0 w ∙ shortened_length l (insert_links l hd.used)
 
-    filled-count : hd.live + 1 ≡ odd_count (version_at l' hd.used) hd.used
-    filled-count =
+    filled_count : hd.live + 1 ≡ odd_count (version_at l' hd.used) hd.used
+    filled_count =
         omega (
           arith,
           counted,
-          ap (λ (f : ℕ → ℕ). odd_count f hd.used) filled-versions,
+          ap (λ (f : ℕ → ℕ). odd_count f hd.used) filled_versions,
           odd_change (version_at l hd.used) (put (version_at l hd.used) b w) hd.used b back_is.0 (put_other (version_at l hd.used) b w),
           ap (λ (y : ℕ). y % 2) (put_same (version_at l hd.used) b w b refl),
           back_is.1,
         )
 
-    filled-shape : shape_number l' r' (one_more hd) ≡ 0
-    filled-shape =
+    filled_shape : shape_number l' r' (one_more hd) ≡ 0
+    filled_shape =
         let s = shaped l r hd shape in
-        still_shaped l r l' r' hd (one_more hd) shape filled-length (length_row r b side) s.some s.within
+        still_shaped l r l' r' hd (one_more hd) shape filled_length (length_row r b side) s.some s.within
         (omega (arith, insert_room _ _ _ _ hd.used after L some, counted))
 
-    filled-machine : machine_of l' r' (one_more hd) (pick (eqb (first after) b) (later after) after) ≡ (filled_by m side b).machine
+    filled_machine : machine_of l' r' (one_more hd) (pick (eqb (first after) b) (later after) after) ≡ (filled_by m side b).machine
     unfolding filled_by
-    filled-machine = cc (filled-versions, filled-rows, filled-length)
+    filled_machine = cc (filled_versions, filled_rows, filled_length)
 
-    back-does : Does (take_slot l₁ r hd side b w) (filled_by m side b)
+    back_does : Does (take_slot l₁ r hd side b w) (filled_by m side b)
     unfolding take_slot filled_by
-    back-does =
+    back_does =
         record {
           answer = refl;
           row = refl;
-          shows = subst (Shows l' r' (one_more hd)) filled-machine
-              (shows l' r' (one_more hd) (pick (eqb (first after) b) (later after) after) filled-shape
-              (filled_linked l hd.used after L fits w (omega (arith, back_is.1)) some) filled-count);
+          shows = subst (Shows l' r' (one_more hd)) filled_machine
+              (shows l' r' (one_more hd) (pick (eqb (first after) b) (later after) after) filled_shape
+              (filled_linked l hd.used after L fits w (omega (arith, back_is.1)) some) filled_count);
         }
 
 -- the number, and the call
@@ -208,12 +208,12 @@ module _ (l r : List ℕ) (hd : Header) (shape : shape_number l r hd ≡ 0) (aft
   at_place : place (machine_of l r hd after) ≡ other_end_at l hd.used (next_at l hd.used 0)
   at_place = sym (place_is l hd.used after L)
 
-  insert-number-is : insert_number l r hd side (insert_links l hd.used) ≡ insert_number_on (machine_of l r hd after) side
+  insert_number_is : insert_number l r hd side (insert_links l hd.used) ≡ insert_number_on (machine_of l r hd after) side
   unfolding insert_number insert_number_on
-  insert-number-is =
-      take-passes l hd after L counted _
+  insert_number_is =
+      take_passes l hd after L counted _
       ∙ ap (λ (k : ℕ). k ▸ (both (eqb (other_end_at l hd.used (next_at l hd.used 0)) 0) (eqb hd.used (lent_of l)), full))
-      (run-passes l hd after L counted _ ∙ side_alone l r hd shape L.fronts.zero_even (length side) row_words)
+      (run_passes l hd after L counted _ ∙ side_alone l r hd shape L.fronts.zero_even (length side) row_words)
       ∙ ap (λ (k : ℕ). side_number passes (length side) row_words ▸ (both (eqb k 0) (eqb hd.used (lent_of l)), full)) (sym at_place)
 
   insert_passed : insert_number_on (machine_of l r hd after) side ≡ 0 →
@@ -227,10 +227,10 @@ module _ (l r : List ℕ) (hd : Header) (shape : shape_number l r hd ≡ 0) (aft
   abbrev stepOn : ℕ → Step
   stepOn b = pick (eqb b 0) (grown_by (machine_of l r hd after) side) (filled_by (machine_of l r hd after) side b)
 
-  step-does : insert_number_on (machine_of l r hd after) side ≡ 0 →
+  step_does : insert_number_on (machine_of l r hd after) side ≡ 0 →
       Does (insert_step l r hd side (insert_links l hd.used)) (stepOn (other_end_at l hd.used (next_at l hd.used 0)))
   unfolding insert_step
-  step-does e =
+  step_does e =
       let f = insert_passed e in
       let b = other_end_at l hd.used (next_at l hd.used 0) in
       by_test (λ (t : Bool). Does
@@ -239,8 +239,8 @@ module _ (l r : List ℕ) (hd : Header) (shape : shape_number l r hd ≡ 0) (aft
       (λ z.
       let full-not : hd.used ≢ lent_of l = eqb-false _ _ (both_false (eqb b 0) _ f.1 z) in
       let s = shaped l r hd shape in
-      new-does l r hd shape after L counted side f.0 (omega (arith, full-not, s.within)))
-      (λ z. back-does l r hd shape after L counted side f.0 (eqb-false b 0 z))
+      new_does l r hd shape after L counted side f.0 (omega (arith, full-not, s.within)))
+      (λ z. back_does l r hd shape after L counted side f.0 (eqb-false b 0 z))
 
 pub insert_does : (l r : List ℕ) (hd : Header) (m : Machine) → Shows l r hd m → (side : List ℕ) → Does (insert_rule l r hd side) (insert_on m side)
 unfolding insert_rule insert_by insert_on
@@ -251,7 +251,7 @@ insert_does l r hd m s side =
     let t : Shows l r hd (machine_of l r hd after) = record { shaped = s.shaped; sound = s.sound; same = refl } in
     subst (λ (x : Machine). Does (insert_rule l r hd side) (insert_on x side)) s.same
     (unless_does l r hd (machine_of l r hd after) t
-    (insert_number l r hd side (insert_links l hd.used)) (insert_number_on (machine_of l r hd after) side) (insert-number-is l r hd s.shaped after L c side)
+    (insert_number l r hd side (insert_links l hd.used)) (insert_number_on (machine_of l r hd after) side) (insert_number_is l r hd s.shaped after L c side)
     (insert_step l r hd side (insert_links l hd.used)) (stepOn l r hd s.shaped after L c side (place (machine_of l r hd after)))
     (λ e. subst (λ (b : ℕ). Does (insert_step l r hd side (insert_links l hd.used)) (stepOn l r hd s.shaped after L c side b))
-    (sym (at_place l r hd s.shaped after L c side)) (step-does l r hd s.shaped after L c side e)))
+    (sym (at_place l r hd s.shaped after L c side)) (step_does l r hd s.shaped after L c side e)))

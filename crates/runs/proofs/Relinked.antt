@@ -75,8 +75,8 @@ module _ (v : ℕ → ℕ) (n k : ℕ) (low : k < n) (c : Chain) (same : version
   unfolding chain_slot
   joined e = simp (same, e)
 
-  run-here : is_back v n k ≡ true → Run v n (front_at v n k c) k
-  run-here e =
+  run_here : is_back v n k ≡ true → Run v n (front_at v n k c) k
+  run_here e =
       let r = back_is v n k e in
       rw (C.here (back_vacant v n r)) r
 
@@ -87,7 +87,7 @@ module _ (v : ℕ → ℕ) (n k : ℕ) (low : k < n) (c : Chain) (same : version
       go : (t : Bool) → is_back v n k ≡ t → ChainedTo v n (suc k) (chain_slot n k c)
       go false e = rw (passed e) (pass v _ _ _ n k c.front c.last C e)
       go true e =
-          let r = run-here e in
+          let r = run_here e in
           let p = holds_below c.links n c.last fits (last_in_use v _ _ _ n k c.front c.last C (omega arith)) in
           let f = holds_below c.links n (front_at v n k c) fits r.front.below in
           let b = holds_below c.links n k fits low in
@@ -111,18 +111,18 @@ abbrev start : List ℕ → ℕ → Chain
 start l n = record { links = unlinked n l; front = 0; last = 0 }
 
 module _ (l : List ℕ) (n : ℕ) where
-  relinked-same : (used : ℕ) → Same used (relinked l n).links l
+  relinked_same : (used : ℕ) → Same used (relinked l n).links l
   unfolding relinked
-  relinked-same used =
+  relinked_same used =
       let a = slots_same used n (start l n) n in
       let b = unlinked_same used l n in
       simp words (a.0 ∙ b.0, a.1 ∙ b.1)
 
   pub relinked_length : length (relinked l n).links ≡ length l
-  relinked_length = (relinked-same n).0
+  relinked_length = (relinked_same n).0
 
   pub relinked_versions : (used : ℕ) → version_at (relinked l n).links used ≡ version_at l used
-  relinked_versions used = (relinked-same used).1
+  relinked_versions used = (relinked_same used).1
 
   module _ (some : 1 ≤ n) (fits : n * link_words ≤ length l) (even : version_at l n 0 % 2 ≡ 0) where
     pub relinked_linked : LinkedTable (relinked l n).links n (rising (version_at l n) n)

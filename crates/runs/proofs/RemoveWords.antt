@@ -74,39 +74,39 @@ module _ (l : List ℕ) (u : ℕ) (after : List ℕ) (L : LinkedTable l u after)
   has k h = holds_below l u k fits h
 
   -- with the slot after it vacant, that slot is a front in the chain
-  right-front : r < u → v r % 2 ≡ 0 → (a : List ℕ) × (b : List ℕ) × (after ≡ a ++ r ∷ b)
-  right-front h q =
+  right_front : r < u → v r % 2 ≡ 0 → (a : List ℕ) × (b : List ℕ) × (after ≡ a ++ r ∷ b)
+  right_front h q =
       times_split r after
       (omega (arith, alike_other r 0 (λ t. omega arith), L.fronts.every r (record { below = h; vacant = q; starts = λ m t. omega (arith, par v m i (omega arith)) })))
 
   once : (a b : List ℕ) → after ≡ a ++ r ∷ b → times r (a ++ r ∷ b) ≤ 1
   once a b q = omega (arith, fronts_once v u after L.fronts r, ap (times r) q)
 
-  apart-linked : v j % 2 ≡ 1 → (r < u → v r % 2 ≡ 1) → LinkedTable (set_version (set_apart l u i) i w) u (after ++ i ∷ [])
+  apart_linked : v j % 2 ≡ 1 → (r < u → v r % 2 ≡ 1) → LinkedTable (set_version (set_apart l u i) i w) u (after ++ i ∷ [])
   unfolding set_apart
-  apart-linked lo ro =
+  apart_linked lo ro =
       let t = remove_t v n p e u after L in
       simp (words, has i low, has 0 (omega arith), has (p 0) t.0) (apart v n p e u after L j w low odd ev lo ro)
 
-  left-linked : v j % 2 ≡ 0 → (r < u → v r % 2 ≡ 1) → LinkedTable (set_version (join_left l u i j) i w) u after
+  left_linked : v j % 2 ≡ 0 → (r < u → v r % 2 ≡ 1) → LinkedTable (set_version (join_left l u i j) i w) u after
   unfolding join_left
-  left-linked lo ro =
+  left_linked lo ro =
       let f = remove_left_link v n p e u after L j low odd lo in
       simp (words, has i low, has (e j) f.0.0) (join_left_linked v n p e u after L j w low odd ev lo ro)
 
-  right-linked : v j % 2 ≡ 1 → r < u → v r % 2 ≡ 0 → LinkedTable (set_version (join_right l u i r) i w) u (renamed r i after)
+  right_linked : v j % 2 ≡ 1 → r < u → v r % 2 ≡ 0 → LinkedTable (set_version (join_right l u i r) i w) u (renamed r i after)
   unfolding join_right
-  right-linked lo h q =
-      let s = right-front h q in
+  right_linked lo h q =
+      let s = right_front h q in
       let f = remove_right_links v n p e u after L j low odd h q in
       simp (words, has i low, has (n r) f.0.0, has (p r) f.1.0, has (e r) f.2.0)
       (rw (ap (renamed r i) s.2 ∙ renamed_at r i s.0 s.1 (once s.0 s.1 s.2))
       (join_right_odd v n p e u after L j w low odd ev s.0 s.1 s.2 lo))
 
-  both-linked : v j % 2 ≡ 0 → r < u → v r % 2 ≡ 0 → LinkedTable (set_version (join_both l u j r) i w) u (without r after)
+  both_linked : v j % 2 ≡ 0 → r < u → v r % 2 ≡ 0 → LinkedTable (set_version (join_both l u j r) i w) u (without r after)
   unfolding join_both
-  both-linked lo h q =
-      let s = right-front h q in
+  both_linked lo h q =
+      let s = right_front h q in
       let f = remove_right_links v n p e u after L j low odd h q in
       let g = remove_left_link v n p e u after L j low odd lo in
       simp (words, has i low, has (n r) f.0.0, has (p r) f.1.0, has (e r) f.2.0, has (e j) g.0.0)
@@ -117,23 +117,23 @@ module _ (l : List ℕ) (u : ℕ) (after : List ℕ) (L : LinkedTable l u after)
   abbrev chainAfter : List ℕ
   chainAfter = pick (vacant_by v u j) (pick (vacant_by v u r) (without r after) after) (pick (vacant_by v u r) (renamed r i after) (after ++ i ∷ []))
 
-  right-odd : vacant_by v u r ≡ false → r < u → v r % 2 ≡ 1
-  right-odd t = vacant_not v u r t
+  right_odd : vacant_by v u r ≡ false → r < u → v r % 2 ≡ 1
+  right_odd t = vacant_not v u r t
 
-  near-linked : LinkedTable (set_version (freed l u i (near l u j)) i w) u chainAfter
+  near_linked : LinkedTable (set_version (freed l u i (near l u j)) i w) u chainAfter
   unfolding freed vacant_at
-  near-linked =
+  near_linked =
       by_test (λ (b : Bool). LinkedTable
       (set_version (pick b (pick (vacant_by v u r) (join_both l u j r) (join_left l u i j)) (pick (vacant_by v u r) (join_right l u i r) (set_apart l u i))) i w) u
       (pick b (pick (vacant_by v u r) (without r after) after) (pick (vacant_by v u r) (renamed r i after) (after ++ i ∷ [])))) (vacant_by v u j)
       (λ b. let lo = (vacant_is v u j b).1 in
       by_test (λ (a : Bool). LinkedTable (set_version (pick a (join_both l u j r) (join_left l u i j)) i w) u (pick a (without r after) after)) (vacant_by v u r)
-      (λ a. let ri = vacant_is v u r a in both-linked lo ri.0 ri.1)
-      (λ a. left-linked lo (right-odd a)))
+      (λ a. let ri = vacant_is v u r a in both_linked lo ri.0 ri.1)
+      (λ a. left_linked lo (right_odd a)))
       (λ b. let lo = vacant_not v u j b (omega arith) in
       by_test (λ (a : Bool). LinkedTable (set_version (pick a (join_right l u i r) (set_apart l u i)) i w) u (pick a (renamed r i after) (after ++ i ∷ []))) (vacant_by v u r)
-      (λ a. let ri = vacant_is v u r a in right-linked lo ri.0 ri.1)
-      (λ a. apart-linked lo (right-odd a)))
+      (λ a. let ri = vacant_is v u r a in right_linked lo ri.0 ri.1)
+      (λ a. apart_linked lo (right_odd a)))
 
   -- and the chain named as the machine names it
   chain_is : fronts_after v u after i ≡ chainAfter
@@ -144,4 +144,4 @@ module _ (l : List ℕ) (u : ℕ) (after : List ℕ) (L : LinkedTable l u after)
       simp (a, b)
 
   pub freed_linked : LinkedTable (set_version (freed l u i (beside l u i)) i w) u (fronts_after v u after i)
-  freed_linked = rw (near_is l u j, chain_is) near-linked
+  freed_linked = rw (near_is l u j, chain_is) near_linked

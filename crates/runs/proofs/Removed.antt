@@ -51,44 +51,44 @@ module _ (l : List ℕ) (hd : Header) (after : List ℕ) (L : LinkedTable l hd.u
   abbrev t : ℕ
   t = prev_at l hd.used 0
 
-  some-live : (i : ℕ) → i < u → v i % 2 ≡ 1 → hd.live ≡ 0 → ⊥
-  some-live i h o z = omega (arith, odd_some v u i h o, counted)
+  some_live : (i : ℕ) → i < u → v i % 2 ≡ 1 → hd.live ≡ 0 → ⊥
+  some_live i h o z = omega (arith, odd_some v u i h o, counted)
 
   -- no link that the removal of an occupied slot follows goes astray
   module _ (j : ℕ) (low : suc j < hd.used) (odd : version_at l hd.used (suc j) % 2 ≡ 1) where
-    apart-passes : apart_number l hd (near l u j) ≡ 0
+    apart_passes : apart_number l hd (near l u j) ≡ 0
     unfolding apart_number
-    apart-passes =
+    apart_passes =
         let f = remove_t v (next_at l u) (prev_at l u) (other_end_at l u) u after L in
         skipped _ _ _ (both_if (both (not (vacant_at l u j)) (not (vacant_at l u (suc (suc j))))) _ (λ _. not_astray l u t f.0 f.1))
-        ∙ skipped _ _ _ (ne_eqb hd.live 0 (some-live (suc j) low odd))
+        ∙ skipped _ _ _ (ne_eqb hd.live 0 (some_live (suc j) low odd))
 
-    left-leads : vacant_by v u j ≡ true → IsVacant v u (other_end_at l u j) × (other_end_at l u j ≤ j)
-    left-leads e = remove_left_link v (next_at l u) (prev_at l u) (other_end_at l u) u after L j low odd (vacant_is v u j e).1
+    left_leads : vacant_by v u j ≡ true → IsVacant v u (other_end_at l u j) × (other_end_at l u j ≤ j)
+    left_leads e = remove_left_link v (next_at l u) (prev_at l u) (other_end_at l u) u after L j low odd (vacant_is v u j e).1
 
-    left-passes : (n : ℕ) → left_number n l hd (near l u j) ≡ n
+    left_passes : (n : ℕ) → left_number n l hd (near l u j) ≡ n
     unfolding left_number vacant_at
-    left-passes n =
-        skipped _ _ _ (both_if (vacant_by v u j) _ (λ e. le-ltb j (other_end_at l u j) (left-leads e).1))
-        ∙ skipped _ _ _ (both_if (vacant_by v u j) _ (λ e. not_astray l u (other_end_at l u j) (left-leads e).0.0 (left-leads e).0.1))
+    left_passes n =
+        skipped _ _ _ (both_if (vacant_by v u j) _ (λ e. le-ltb j (other_end_at l u j) (left_leads e).1))
+        ∙ skipped _ _ _ (both_if (vacant_by v u j) _ (λ e. not_astray l u (other_end_at l u j) (left_leads e).0.0 (left_leads e).0.1))
 
     abbrev r : ℕ
     r = suc (suc j)
 
-    right-leads : vacant_by v u r ≡ true → IsVacant v u (next_at l u r) × IsVacant v u (prev_at l u r) × IsVacant v u (other_end_at l u r) × (r ≤ other_end_at l u r)
-    right-leads e = let q = vacant_is v u r e in remove_right_links v (next_at l u) (prev_at l u) (other_end_at l u) u after L j low odd q.0 q.1
+    right_leads : vacant_by v u r ≡ true → IsVacant v u (next_at l u r) × IsVacant v u (prev_at l u r) × IsVacant v u (other_end_at l u r) × (r ≤ other_end_at l u r)
+    right_leads e = let q = vacant_is v u r e in remove_right_links v (next_at l u) (prev_at l u) (other_end_at l u) u after L j low odd q.0 q.1
 
-    right-passes : (n : ℕ) → right_number n l hd (near l u j) ≡ n
+    right_passes : (n : ℕ) → right_number n l hd (near l u j) ≡ n
     unfolding right_number vacant_at
-    right-passes n =
-        skipped _ _ _ (both_if (vacant_by v u r) _ (λ e. le-ltb (other_end_at l u r) r (right-leads e).3))
-        ∙ skipped _ _ _ (both_if (vacant_by v u r) _ (λ e. not_astray l u (other_end_at l u r) (right-leads e).2.0 (right-leads e).2.1))
-        ∙ skipped _ _ _ (both_if (vacant_by v u r) _ (λ e. not_astray l u (prev_at l u r) (right-leads e).1.0 (right-leads e).1.1))
-        ∙ skipped _ _ _ (both_if (vacant_by v u r) _ (λ e. not_astray l u (next_at l u r) (right-leads e).0.0 (right-leads e).0.1))
+    right_passes n =
+        skipped _ _ _ (both_if (vacant_by v u r) _ (λ e. le-ltb (other_end_at l u r) r (right_leads e).3))
+        ∙ skipped _ _ _ (both_if (vacant_by v u r) _ (λ e. not_astray l u (other_end_at l u r) (right_leads e).2.0 (right_leads e).2.1))
+        ∙ skipped _ _ _ (both_if (vacant_by v u r) _ (λ e. not_astray l u (prev_at l u r) (right_leads e).1.0 (right_leads e).1.1))
+        ∙ skipped _ _ _ (both_if (vacant_by v u r) _ (λ e. not_astray l u (next_at l u r) (right_leads e).0.0 (right_leads e).0.1))
 
     pub removal_passes : remove_number l hd (beside l u (suc j)) ≡ 0
     unfolding remove_number
-    removal_passes = rw (near_is l u j) (right-passes _ ∙ left-passes _ ∙ apart-passes)
+    removal_passes = rw (near_is l u j) (right_passes _ ∙ left_passes _ ∙ apart_passes)
 
 -- the removal of an occupied slot under its key
 module _ (l r : List ℕ) (hd : Header) (shape : shape_number l r hd ≡ 0) (after : List ℕ) (L : LinkedTable l hd.used after)
@@ -112,57 +112,57 @@ module _ (l r : List ℕ) (hd : Header) (shape : shape_number l r hd ≡ 0) (aft
     abbrev r' : List ℕ
     r' = set_row r i zero_row
 
-    versions-after : version_at l' hd.used ≡ put (version_at l hd.used) i w
-    versions-after =
+    versions_after : version_at l' hd.used ≡ put (version_at l hd.used) i w
+    versions_after =
         version_put (freed l hd.used i (beside l hd.used i)) i w hd.used
         (holds_below _ hd.used i (omega (arith, fits, freed_length l hd.used i (beside l hd.used i))) low)
         ∙ ap (λ (f : ℕ → ℕ). put f i w) (freed_versions l hd.used i (beside l hd.used i))
 
-    rows-after : row_at r' hd.used ≡ put (row_at r hd.used) i zero_row
-    rows-after = row_put r i zero_row hd.used (row_below r hd.used i row_fits low) refl
+    rows_after : row_at r' hd.used ≡ put (row_at r hd.used) i zero_row
+    rows_after = row_put r i zero_row hd.used (row_below r hd.used i row_fits low) refl
 
-    length-after : length l' ≡ length l
-    length-after = length_link (freed l hd.used i (beside l hd.used i)) i 0 w ∙ freed_length l hd.used i (beside l hd.used i)
+    length_after : length l' ≡ length l
+    length_after = length_link (freed l hd.used i (beside l hd.used i)) i 0 w ∙ freed_length l hd.used i (beside l hd.used i)
 
-    count-after : hd.live - 1 ≡ odd_count (version_at l' hd.used) hd.used
-    count-after =
+    count_after : hd.live - 1 ≡ odd_count (version_at l' hd.used) hd.used
+    count_after =
         omega (
           arith,
           counted,
-          ap (λ (f : ℕ → ℕ). odd_count f hd.used) versions-after,
+          ap (λ (f : ℕ → ℕ). odd_count f hd.used) versions_after,
           odd_change (version_at l hd.used) (put (version_at l hd.used) i w) hd.used i low (put_other (version_at l hd.used) i w),
           ap (λ (x : ℕ). x % 2) (put_same (version_at l hd.used) i w i refl),
           rise_even (version_at l hd.used i) odd,
         )
 
-    shape-after : shape_number l' r' (one_less hd) ≡ 0
-    shape-after =
+    shape_after : shape_number l' r' (one_less hd) ≡ 0
+    shape_after =
         let s = shaped l r hd shape in
-        still_shaped l r l' r' hd (one_less hd) shape length-after (length_row r i zero_row) s.some s.within (omega (arith, s.few))
+        still_shaped l r l' r' hd (one_less hd) shape length_after (length_row r i zero_row) s.some s.within (omega (arith, s.few))
 
-    machine-after : machine_of l' r' (one_less hd) (fronts_after (version_at l hd.used) hd.used after i) ≡ freed_on (machine_of l r hd after) i
+    machine_after : machine_of l' r' (one_less hd) (fronts_after (version_at l hd.used) hd.used after i) ≡ freed_on (machine_of l r hd after) i
     unfolding freed_on
-    machine-after = cc (versions-after, rows-after, length-after)
+    machine_after = cc (versions_after, rows_after, length_after)
 
-    freed-does : (y : ℕ) → Does (remove_slot l r hd (record { index = i; version = y })) (taken_out (machine_of l r hd after) (record { index = i; version = y }))
+    freed_does : (y : ℕ) → Does (remove_slot l r hd (record { index = i; version = y })) (taken_out (machine_of l r hd after) (record { index = i; version = y }))
     unfolding remove_slot remove_by unless remove_step
-    freed-does y =
+    freed_does y =
         simp (removal_passes l hd after L fits counted j low odd)
         (record {
           answer = refl;
           row = refl;
-          shows = subst (Shows l' r' (one_less hd)) machine-after
-              (shows l' r' (one_less hd) (fronts_after (version_at l hd.used) hd.used after i) shape-after
-              (freed_linked l hd.used after L fits j w low odd (rise_even (version_at l hd.used i) odd)) count-after);
+          shows = subst (Shows l' r' (one_less hd)) machine_after
+              (shows l' r' (one_less hd) (fronts_after (version_at l hd.used) hd.used after i) shape_after
+              (freed_linked l hd.used after L fits j w low odd (rise_even (version_at l hd.used i) odd)) count_after);
         })
 
-  removal-is : (k : Key) → k.index < hd.used → version_at l hd.used k.index % 2 ≡ 1 → Does (remove_slot l r hd k) (taken_out (machine_of l r hd after) k)
-  removal-is k low odd = at k.index low odd k.version
+  removal_is : (k : Key) → k.index < hd.used → version_at l hd.used k.index % 2 ≡ 1 → Does (remove_slot l r hd k) (taken_out (machine_of l r hd after) k)
+  removal_is k low odd = at k.index low odd k.version
     where
       at : (i : ℕ) → i < hd.used → version_at l hd.used i % 2 ≡ 1 → (y : ℕ) →
           Does (remove_slot l r hd (record { index = i; version = y })) (taken_out (machine_of l r hd after) (record { index = i; version = y }))
       at zero low odd y = absurd (omega (arith, L.fronts.zero_even))
-      at (suc j) low odd y = freed-does j low odd y
+      at (suc j) low odd y = freed_does j low odd y
 
 -- a key that is not turned down is live, and its slot occupied
 pub key_live : (n : ℕ) (m : Machine) (k : Key) → key_number_on n m k ≡ 0 → (n ≡ 0) × (live_by m.versions m.used k ≡ true)
@@ -184,7 +184,7 @@ module _ (l r : List ℕ) (hd : Header) (m : Machine) (s : Shows l r hd m) where
   removal_does k e =
       subst (λ (x : Machine). occupied_by x.versions x.used k.index ≡ true → Does (remove_slot l r hd k) (taken_out x k)) s.same
       (λ e. let o = occupied_is (version_at l hd.used) hd.used k.index e in
-      removal-is l r hd s.shaped s.sound.circle.after (linked l hd s.sound) s.sound.live_count.counted k o.0 o.1) e
+      removal_is l r hd s.shaped s.sound.circle.after (linked l hd s.sound) s.sound.live_count.counted k o.0 o.1) e
 
   -- the removal of a slot under the key that it has
   pub remove_at_does : (q : ℕ) → occupied_by m.versions m.used q ≡ true → Does (remove_at l r hd q) (taken_out m (key_of m q))

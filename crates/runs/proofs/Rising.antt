@@ -47,10 +47,10 @@ module _ (v : ℕ → ℕ) (u : ℕ) where
   rising_past k e = simp e
 
   -- how often x is on the list of those below k
-  times-rising : (x k : ℕ) → times x (fronts_below v u k) ≡ one_if (both (ltb x k) (listed x))
+  times_rising : (x k : ℕ) → times x (fronts_below v u k) ≡ one_if (both (ltb x k) (listed x))
   unfolding fronts_below listed
-  times-rising x zero = simp (le-ltb x 0 (omega arith))
-  times-rising x (suc k) = go (ℕ_discrete x k) (times-rising x k)
+  times_rising x zero = simp (le-ltb x 0 (omega arith))
+  times_rising x (suc k) = go (ℕ_discrete x k) (times_rising x k)
     where
       more : times x (fronts_below v u (suc k)) ≡ times x (fronts_below v u k) + pick (listed k) (alike x k) 0
       more =
@@ -69,26 +69,26 @@ module _ (v : ℕ → ℕ) (u : ℕ) where
   -- so each front below k but slot 0 is on it, and nothing else
   pub rising_has : (x k : ℕ) → 0 < x → x < k → Front v u x → times x (fronts_below v u k) ≡ 1
   unfolding listed
-  rising_has x k p h f = times-rising x k ∙ simp (lt-ltb x k h, front_yes v u x f, lt-ltb 0 x p)
+  rising_has x k p h f = times_rising x k ∙ simp (lt-ltb x k h, front_yes v u x f, lt-ltb 0 x p)
 
   pub rising_only : (x k : ℕ) → 1 ≤ times x (fronts_below v u k) → (0 < x) × (x < k) × Front v u x
   unfolding listed
   rising_only x k h =
-      let a = both_true (ltb x k) (listed x) (then_true (both (ltb x k) (listed x)) (omega (arith, times-rising x k))) in
+      let a = both_true (ltb x k) (listed x) (then_true (both (ltb x k) (listed x)) (omega (arith, times_rising x k))) in
       let b = both_true (is_front v u x) (ltb 0 x) a.1 in
       (ltb-true 0 x b.1, ltb-true x k a.0, front_is v u x b.0)
 
-  risen-no-zero : (k : ℕ) → times 0 (fronts_below v u k) ≡ 0
+  risen_no_zero : (k : ℕ) → times 0 (fronts_below v u k) ≡ 0
   unfolding listed
-  risen-no-zero k = times-rising 0 k ∙ simp (no_choice (is_front v u 0) false, no_choice (ltb 0 k) false)
+  risen_no_zero k = times_rising 0 k ∙ simp (no_choice (is_front v u 0) false, no_choice (ltb 0 k) false)
 
   -- with slot 0 ahead of them
   pub rising_once : (k x : ℕ) → times x (0 ∷ fronts_below v u k) ≤ 1
   rising_once k x = go (ℕ_discrete x 0)
     where
       go : Dec (x ≡ 0) → times x (0 ∷ fronts_below v u k) ≤ 1
-      go (yes e) = omega (arith, alike_same x 0 e, same_times x 0 (fronts_below v u k) e, risen-no-zero k)
-      go (no n) = omega (arith, alike_other x 0 n, times-rising x k, one_most (both (ltb x k) (listed x)))
+      go (yes e) = omega (arith, alike_same x 0 e, same_times x 0 (fronts_below v u k) e, risen_no_zero k)
+      go (no n) = omega (arith, alike_other x 0 n, times_rising x k, one_most (both (ltb x k) (listed x)))
 
   pub rising_below : (k x : ℕ) → 0 < k → 1 ≤ times x (0 ∷ fronts_below v u k) → x < k
   rising_below k x p h = go (ℕ_discrete x 0)
@@ -117,7 +117,7 @@ module _ (v : ℕ → ℕ) (u : ℕ) where
   }
     where
       every : (k : ℕ) → Front v u k → Dec (k ≡ 0) → times k (0 ∷ rising v u) ≡ 1
-      every k f (yes e) = omega (arith, alike_same k 0 e, same_times k 0 (rising v u) e, risen-no-zero u)
+      every k f (yes e) = omega (arith, alike_same k 0 e, same_times k 0 (rising v u) e, risen_no_zero u)
       every k f (no n) = omega (arith, alike_other k 0 n, rising_has k u (omega arith) f.below f)
 
       only : (k : ℕ) → 1 ≤ times k (0 ∷ rising v u) → Dec (k ≡ 0) → Front v u k

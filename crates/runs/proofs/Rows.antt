@@ -64,8 +64,8 @@ module _ (r : List ℕ) (i : ℕ) (s : List ℕ) (c : is_row s ≡ true) (within
   ahead : length (take (i * row_words) r) ≡ i * row_words
   ahead = length-take-le (i * row_words) r (omega arith)
 
-  part-here : take row_words (drop (i * row_words) (set_row r i s)) ≡ s
-  part-here =
+  part_here : take row_words (drop (i * row_words) (set_row r i s)) ≡ s
+  part_here =
       ap (λ (t : List ℕ). take row_words (drop (i * row_words) t)) pasted
       ∙ ap (take row_words) (drop_at (take (i * row_words) r) (s ++ rest) (i * row_words) ahead)
       ∙ take_at s rest row_words whole
@@ -76,9 +76,9 @@ module _ (r : List ℕ) (i : ℕ) (s : List ℕ) (c : is_row s ≡ true) (within
     words = ap (take (i * row_words)) pasted ∙ take_at (take (i * row_words) r) (s ++ rest) (i * row_words) ahead;
   }
 
-  part-there : (k : ℕ) → k ≢ i → k * row_words + row_words ≤ length r →
+  part_there : (k : ℕ) → k ≢ i → k * row_words + row_words ≤ length r →
       take row_words (drop (k * row_words) (set_row r i s)) ≡ take row_words (drop (k * row_words) r)
-  part-there k n h = go (dec_lt k i)
+  part_there k n h = go (dec_lt k i)
     where
       go : Dec (k < i) → take row_words (drop (k * row_words) (set_row r i s)) ≡ take row_words (drop (k * row_words) r)
       go (yes a) = same_part (k * row_words) row_words (i * row_words) (set_row r i s) r before (omega arith) (omega (arith, length_row r i s))
@@ -94,11 +94,11 @@ row_put_at r i s used k h c = go (ℕ_discrete k i)
     within = leb-true (i * row_words + row_words) (length r) (both_true (ltb i used) (row_within r i) h).1
 
     go : Dec (k ≡ i) → row_at (set_row r i s) used k ≡ put (row_at r used) i s k
-    go (yes e) = rw e (simp (length_row r i s, h, part-here r i s c within) (sym (put_same (row_at r used) i s i refl)))
+    go (yes e) = rw e (simp (length_row r i s, h, part_here r i s c within) (sym (put_same (row_at r used) i s i refl)))
     go (no n) =
         ap (λ (m : ℕ). pick (both (ltb k used) (leb (k * row_words + row_words) m)) (take row_words (drop (k * row_words) (set_row r i s))) zero_row) (length_row r i s)
         ∙ by_picks ◌≡◌ (both (ltb k used) (row_within r k)) _ _ _ _
-        (λ e. part-there r i s c within k n (leb-true (k * row_words + row_words) (length r) (both_true (ltb k used) (row_within r k) e).1))
+        (λ e. part_there r i s c within k n (leb-true (k * row_words + row_words) (length r) (both_true (ltb k used) (row_within r k) e).1))
         (λ _. refl)
         ∙ sym (put_other (row_at r used) i s k n)
 

@@ -55,36 +55,36 @@ module _ (chosen : ℕ → Bool) (l r : List ℕ) (hd : Header) (m : Machine) (s
   ahead : (k i : ℕ) → k ≤ i → (now k).versions i ≡ m.versions i
   ahead k i h = (left chosen m k).versions i ∙ simp (le-ltb i k h)
 
-  used-now : (k : ℕ) → (now k).used ≡ m.used
-  used-now k = (left chosen m k).used
+  used_now : (k : ℕ) → (now k).used ≡ m.used
+  used_now k = (left chosen m k).used
 
-  same-used : (k : ℕ) → (so_far k).header.used ≡ m.used
-  same-used k = ap (λ (x : Machine). x.used) (shown k).same ∙ used-now k
+  same_used : (k : ℕ) → (so_far k).header.used ≡ m.used
+  same_used k = ap (λ (x : Machine). x.used) (shown k).same ∙ used_now k
 
   version_now : (k i : ℕ) → k ≤ i → version_at (so_far k).links (so_far k).header.used i ≡ m.versions i
   version_now k i h = ap (λ (x : Machine). x.versions i) (shown k).same ∙ ahead k i h
 
-  occupied-now : (k i : ℕ) → k ≤ i → occupied_at (so_far k).links (so_far k).header.used i ≡ occupied_by m.versions m.used i
+  occupied_now : (k i : ℕ) → k ≤ i → occupied_at (so_far k).links (so_far k).header.used i ≡ occupied_by m.versions m.used i
   unfolding occupied_at
-  occupied-now k i h =
-      ap (λ (x : ℕ). both (ltb i (so_far k).header.used) (is_odd x)) (version_now k i h) ∙ ap (λ (x : ℕ). both (ltb i x) (is_odd (m.versions i))) (same-used k)
+  occupied_now k i h =
+      ap (λ (x : ℕ). both (ltb i (so_far k).header.used) (is_odd x)) (version_now k i h) ∙ ap (λ (x : ℕ). both (ltb i x) (is_odd (m.versions i))) (same_used k)
 
   -- vacant slots are passed over
-  over-one : (k : ℕ) → m.versions k % 2 ≡ 0 → so_far (suc k) ≡ so_far k
+  over_one : (k : ℕ) → m.versions k % 2 ≡ 0 → so_far (suc k) ≡ so_far k
   unfolding remove_chosen remove_if
-  over-one k e = simp (occupied-now k k (omega arith), occupied_no m.versions m.used k (λ _. e))
+  over_one k e = simp (occupied_now k k (omega arith), occupied_no m.versions m.used k (λ _. e))
 
-  over-vacant : (d k n : ℕ) → n ≡ k + d → ((i : ℕ) → k ≤ i → i < n → m.versions i % 2 ≡ 0) → so_far n ≡ so_far k
-  over-vacant zero k n e h = let f : n ≡ k = omega arith in ap so_far f
-  over-vacant (suc d) k zero e h = absurd (omega arith)
-  over-vacant (suc d) k (suc n) e h =
-      over-one n (h n (omega arith) (omega arith)) ∙ over-vacant d k n (omega arith) (λ i p q. h i p (omega arith))
+  over_vacant : (d k n : ℕ) → n ≡ k + d → ((i : ℕ) → k ≤ i → i < n → m.versions i % 2 ≡ 0) → so_far n ≡ so_far k
+  over_vacant zero k n e h = let f : n ≡ k = omega arith in ap so_far f
+  over_vacant (suc d) k zero e h = absurd (omega arith)
+  over_vacant (suc d) k (suc n) e h =
+      over_one n (h n (omega arith) (omega arith)) ∙ over_vacant d k n (omega arith) (λ i p q. h i p (omega arith))
 
   -- at a live slot the two removals are one
-  at-live : (k : ℕ) → k < m.used → m.versions k % 2 ≡ 1 → strike_out chosen k (so_far k) ≡ so_far (suc k)
+  at_live : (k : ℕ) → k < m.used → m.versions k % 2 ≡ 1 → strike_out chosen k (so_far k) ≡ so_far (suc k)
   unfolding remove_chosen remove_if strike_out
-  at-live k h o =
-      let w = occupied-now k k (omega arith) ∙ occupied_yes m.versions m.used k h o in
+  at_live k h o =
+      let w = occupied_now k k (omega arith) ∙ occupied_yes m.versions m.used k h o in
       simp (removed_slot (so_far k).links (so_far k).rows (so_far k).header k w, w)
 
   -- the slot to look at after slot k: above it, with nothing live in between, and live if it is in use
@@ -104,23 +104,23 @@ module _ (chosen : ℕ → Bool) (l r : List ℕ) (hd : Header) (m : Machine) (s
     abbrev vk : ℕ → ℕ
     vk = version_at (so_far k).links (so_far k).header.used
 
-    risen-now : (i : ℕ) → i < m.used → rise i ≡ i + 1
-    risen-now i h = next_number (so_far k).links (so_far k).rows (so_far k).header (shown k).shaped i (omega (arith, same-used k))
+    risen_now : (i : ℕ) → i < m.used → rise i ≡ i + 1
+    risen_now i h = next_number (so_far k).links (so_far k).rows (so_far k).header (shown k).shaped i (omega (arith, same_used k))
 
-    par-now : (i : ℕ) → k ≤ i → vk i % 2 ≡ m.versions i % 2
-    par-now i h = ap (λ (x : ℕ). x % 2) (version_now k i h)
+    par_now : (i : ℕ) → k ≤ i → vk i % 2 ≡ m.versions i % 2
+    par_now i h = ap (λ (x : ℕ). x % 2) (version_now k i h)
 
-    over-run-next : vacant_by vk uk (k + 1) ≡ true → Next k (rise (other_end_at lk uk (k + 1)))
-    over-run-next e =
-        rw ((L.ends (k + 1) (back_of vk uk (k + 1)) run).0, risen-now (back_of vk uk (k + 1)) (omega (arith, run.below, same-used k)))
+    over_run_next : vacant_by vk uk (k + 1) ≡ true → Next k (rise (other_end_at lk uk (k + 1)))
+    over_run_next e =
+        rw ((L.ends (k + 1) (back_of vk uk (k + 1)) run).0, risen_now (back_of vk uk (k + 1)) (omega (arith, run.below, same_used k)))
         (record {
           above = omega (arith, run.ordered);
-          within = omega (arith, run.below, same-used k);
-          between = λ i p q. omega (arith, run.vacant i (omega arith) (omega arith), par-now i (omega arith));
+          within = omega (arith, run.below, same_used k);
+          between = λ i p q. omega (arith, run.vacant i (omega arith) (omega arith), par_now i (omega arith));
           live = λ h. omega (
             arith,
-            after_run vk uk (k + 1) (back_of vk uk (k + 1)) run (omega (arith, same-used k)),
-            par-now (back_of vk uk (k + 1) + 1) (omega (arith, run.ordered)),
+            after_run vk uk (k + 1) (back_of vk uk (k + 1)) run (omega (arith, same_used k)),
+            par_now (back_of vk uk (k + 1) + 1) (omega (arith, run.ordered)),
           );
         })
       where
@@ -132,93 +132,93 @@ module _ (chosen : ℕ → Bool) (l r : List ℕ) (hd : Header) (m : Machine) (s
 
         run : Run vk uk (k + 1) (back_of vk uk (k + 1))
         run = run_from vk uk (k + 1)
-            (record { below = w.0; vacant = w.1; starts = λ j t. omega (arith, par vk j k (omega arith), par-now k (omega arith)) })
+            (record { below = w.0; vacant = w.1; starts = λ j t. omega (arith, par vk j k (omega arith), par_now k (omega arith)) })
 
-    next-is : Next k (next_slot lk uk k)
+    next_is : Next k (next_slot lk uk k)
     unfolding next_slot vacant_at
-    next-is =
-        rw (risen-now k low)
+    next_is =
+        rw (risen_now k low)
         (by_test (λ (t : Bool). vacant_by vk uk (k + 1) ≡ t → Next k (pick t (rise (other_end_at lk uk (k + 1))) (k + 1))) (vacant_by vk uk (k + 1))
-        (λ e _. over-run-next e)
+        (λ e _. over_run_next e)
         (λ e _. record {
           above = omega arith;
           within = omega arith;
           between = λ i p q. absurd (omega arith);
-          live = λ h. omega (arith, vacant_not vk uk (k + 1) e (omega (arith, same-used k)), par-now (k + 1) (omega arith));
+          live = λ h. omega (arith, vacant_not vk uk (k + 1) e (omega (arith, same_used k)), par_now (k + 1) (omega arith));
         }) refl)
 
   -- after n slots the one at hand has n live ones below it, and all below it have been looked at
   record Reached (n : ℕ) (c : Scan) : Type 0 where
-    done-so-far : c.outcome ≡ so_far c.slot
-    passed-live : odd_count m.versions c.slot ≡ n
+    done_so_far : c.outcome ≡ so_far c.slot
+    passed_live : odd_count m.versions c.slot ≡ n
     in_use : c.slot ≤ m.used
-    at-hand : n < live_of m → (c.slot < m.used) × (m.versions c.slot % 2 ≡ 1)
+    at_hand : n < live_of m → (c.slot < m.used) × (m.versions c.slot % 2 ≡ 1)
 
   -- no live slot between: none more is counted
-  odd-flat : (d k n : ℕ) → n ≡ k + d → ((i : ℕ) → k ≤ i → i < n → m.versions i % 2 ≡ 0) → odd_count m.versions n ≡ odd_count m.versions k
-  odd-flat zero k n e h = let f : n ≡ k = omega arith in ap (odd_count m.versions) f
-  odd-flat (suc d) k zero e h = absurd (omega arith)
-  odd-flat (suc d) k (suc n) e h =
-      omega (arith, odd_more m.versions n, h n (omega arith) (omega arith), odd-flat d k n (omega arith) (λ i p q. h i p (omega arith)))
+  odd_flat : (d k n : ℕ) → n ≡ k + d → ((i : ℕ) → k ≤ i → i < n → m.versions i % 2 ≡ 0) → odd_count m.versions n ≡ odd_count m.versions k
+  odd_flat zero k n e h = let f : n ≡ k = omega arith in ap (odd_count m.versions) f
+  odd_flat (suc d) k zero e h = absurd (omega arith)
+  odd_flat (suc d) k (suc n) e h =
+      omega (arith, odd_more m.versions n, h n (omega arith) (omega arith), odd_flat d k n (omega arith) (λ i p q. h i p (omega arith)))
 
   -- where fewer live slots are below q than there are, q is in use
-  not-at-end : (q n : ℕ) → odd_count m.versions q ≡ n → q ≤ m.used → n < live_of m → q < m.used
-  not-at-end q n e h l = go (dec_lt q m.used)
+  not_at_end : (q n : ℕ) → odd_count m.versions q ≡ n → q ≤ m.used → n < live_of m → q < m.used
+  not_at_end q n e h l = go (dec_lt q m.used)
     where
       go : Dec (q < m.used) → q < m.used
       go (yes w) = w
       go (no w) = let f : q ≡ m.used = omega arith in absurd (omega (arith, ap (odd_count m.versions) f))
 
-  first-reached : Reached 0 (scan_start l r hd)
+  first_reached : Reached 0 (scan_start l r hd)
   unfolding remove_chosen
-  first-reached =
-      rw (risen-first ∙ lowest_is l r hd m s)
+  first_reached =
+      rw (risen_first ∙ lowest_is l r hd m s)
       (record {
-        done-so-far = sym (over-vacant (lowest m) 0 (lowest m) (omega arith) (λ i p q. none_lower m z i q));
-        passed-live = odd_none m.versions (lowest m) (none_lower m z);
-        in_use = lowest-in-use;
-        at-hand = λ h. lowest_live m z (omega arith);
+        done_so_far = sym (over_vacant (lowest m) 0 (lowest m) (omega arith) (λ i p q. none_lower m z i q));
+        passed_live = odd_none m.versions (lowest m) (none_lower m z);
+        in_use = lowest_in_use;
+        at_hand = λ h. lowest_live m z (omega arith);
       })
     where
       z : Headed m
       z = headed l r hd m s
 
-      used-is : hd.used ≡ m.used
-      used-is = ap (λ (x : Machine). x.used) s.same
+      used_is : hd.used ≡ m.used
+      used_is = ap (λ (x : Machine). x.used) s.same
 
-      lowest-in-use : lowest m ≤ m.used
-      lowest-in-use = omega (arith, (zero_run m z).below)
+      lowest_in_use : lowest m ≤ m.used
+      lowest_in_use = omega (arith, (zero_run m z).below)
 
-      risen-first : rise (other_end_at l hd.used 0) ≡ other_end_at l hd.used 0 + 1
-      risen-first = next_number l r hd s.shaped (other_end_at l hd.used 0) (omega (arith, lowest_is l r hd m s, (zero_run m z).below, used-is))
+      risen_first : rise (other_end_at l hd.used 0) ≡ other_end_at l hd.used 0 + 1
+      risen_first = next_number l r hd s.shaped (other_end_at l hd.used 0) (omega (arith, lowest_is l r hd m s, (zero_run m z).below, used_is))
 
-  next-reached : (n : ℕ) (c : Scan) → n < live_of m → Reached n c → Reached (suc n) (scan_one chosen c)
+  next_reached : (n : ℕ) (c : Scan) → n < live_of m → Reached n c → Reached (suc n) (scan_one chosen c)
   unfolding scan_one
-  next-reached n c h e =
+  next_reached n c h e =
       let k = c.slot in
-      let w = e.at-hand h in
+      let w = e.at_hand h in
       let q = next_slot c.outcome.links c.outcome.header.used k in
-      let x : Next k q = subst (λ (o : Outcome). Next k (next_slot o.links o.header.used k)) (sym e.done-so-far) (next-is k w.0 w.1) in
+      let x : Next k q = subst (λ (o : Outcome). Next k (next_slot o.links o.header.used k)) (sym e.done_so_far) (next_is k w.0 w.1) in
       let count : odd_count m.versions q ≡ suc n =
-      odd-flat (q - suc k) (suc k) q (omega (arith, x.above)) (λ i a b. x.between i (omega arith) b)
-      ∙ omega (arith, odd_more m.versions k, e.passed-live, w.1) in
+      odd_flat (q - suc k) (suc k) q (omega (arith, x.above)) (λ i a b. x.between i (omega arith) b)
+      ∙ omega (arith, odd_more m.versions k, e.passed_live, w.1) in
       record {
-        done-so-far =
-            ap (strike_out chosen k) e.done-so-far ∙ at-live k w.0 w.1
-            ∙ sym (over-vacant (q - suc k) (suc k) q (omega (arith, x.above)) (λ i a b. x.between i (omega arith) b));
-        passed-live = count;
+        done_so_far =
+            ap (strike_out chosen k) e.done_so_far ∙ at_live k w.0 w.1
+            ∙ sym (over_vacant (q - suc k) (suc k) q (omega (arith, x.above)) (λ i a b. x.between i (omega arith) b));
+        passed_live = count;
         in_use = x.within;
-        at-hand = λ t. let b = not-at-end q (suc n) count x.within t in (b, x.live b);
+        at_hand = λ t. let b = not_at_end q (suc n) count x.within t in (b, x.live b);
       }
 
   reached : (n : ℕ) → n ≤ live_of m → Reached n (scans chosen n (scan_start l r hd))
   unfolding scans
-  reached zero h = first-reached
-  reached (suc n) h = next-reached n (scans chosen n (scan_start l r hd)) (omega arith) (reached n (omega arith))
+  reached zero h = first_reached
+  reached (suc n) h = next_reached n (scans chosen n (scan_start l r hd)) (omega arith) (reached n (omega arith))
 
   -- from where all live slots have been passed, nothing is left to do
-  last-vacant : (k : ℕ) → odd_count m.versions k ≡ live_of m → k ≤ m.used → (i : ℕ) → k ≤ i → i < m.used → m.versions i % 2 ≡ 0
-  last-vacant k e h i p q = go (ℕ_discrete (m.versions i % 2) 0)
+  last_vacant : (k : ℕ) → odd_count m.versions k ≡ live_of m → k ≤ m.used → (i : ℕ) → k ≤ i → i < m.used → m.versions i % 2 ≡ 0
+  last_vacant k e h i p q = go (ℕ_discrete (m.versions i % 2) 0)
     where
       go : Dec (m.versions i % 2 ≡ 0) → m.versions i % 2 ≡ 0
       go (yes w) = w
@@ -229,8 +229,8 @@ module _ (chosen : ℕ → Bool) (l r : List ℕ) (hd : Header) (m : Machine) (s
       let e = reached hd.live (omega (arith, live_is l r hd m s)) in
       let k = (scans chosen hd.live (scan_start l r hd)).slot in
       let u : hd.used ≡ m.used = ap (λ (x : Machine). x.used) s.same in
-      e.done-so-far
-      ∙ sym (over-vacant (m.used - k) k m.used (omega (arith, e.in_use)) (last-vacant k (e.passed-live ∙ live_is l r hd m s) e.in_use))
+      e.done_so_far
+      ∙ sym (over_vacant (m.used - k) k m.used (omega (arith, e.in_use)) (last_vacant k (e.passed_live ∙ live_is l r hd m s) e.in_use))
       ∙ ap so_far (sym u)
 
 -- so retain's way is its rule

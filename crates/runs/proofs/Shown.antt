@@ -22,17 +22,17 @@ use Rattle.runs.specs.Tables.{Shows, Does}
 use Rattle.runs.proofs.Sound.{LinkedTable, sound, sound_chain, one_chain}
 
 module _ (l r : List ℕ) (hd : Header) (shape : shape_number l r hd ≡ 0) (even : version_at l hd.used 0 % 2 ≡ 0) where
-  not-odd : is_odd (version_at l hd.used 0) ≡ false
-  not-odd = ne_eqb (version_at l hd.used 0 % 2) 1 (λ t. omega arith)
+  not_odd : is_odd (version_at l hd.used 0) ≡ false
+  not_odd = ne_eqb (version_at l hd.used 0 % 2) 1 (λ t. omega arith)
 
   pub entry_passes : entry_number l r hd ≡ 0
   unfolding entry_number zero_number
-  entry_passes = skipped (shape_number l r hd) (is_odd (version_at l hd.used 0)) damaged not-odd ∙ shape
+  entry_passes = skipped (shape_number l r hd) (is_odd (version_at l hd.used 0)) damaged not_odd ∙ shape
 
   pub side_alone : (side asked : ℕ) → side_entry_number l r hd side asked ≡ side_number passes side asked
   unfolding side_entry_number zero_number
   side_alone side asked =
-      skipped (side_number (shape_number l r hd) side asked) (is_odd (version_at l hd.used 0)) damaged not-odd
+      skipped (side_number (shape_number l r hd) side asked) (is_odd (version_at l hd.used 0)) damaged not_odd
       ∙ ap (λ (n : ℕ). side_number n side asked) shape
 
 -- the slots in use lie within both tables

@@ -112,25 +112,25 @@ module _ (m : Machine) where
       past (no h) = below (omega arith) (ℕ_discrete (v c % 2) 1)
 
   -- the slot after a live one is not past a front, and neither is slot 0
-  after-live : (q : ℕ) → v q % 2 ≡ 1 → past_front v u (q + 1) ≡ false
+  after_live : (q : ℕ) → v q % 2 ≡ 1 → past_front v u (q + 1) ≡ false
   unfolding past_front
-  after-live q e =
+  after_live q e =
       both_if (vacant_by v u (q + 1)) (both (ltb 0 (q + 1)) (vacant_by v u (q + 1 - 1))) λ _.
       both_if (ltb 0 (q + 1)) (vacant_by v u (q + 1 - 1)) λ _.
       vacant_no v u (q + 1 - 1) (λ _. par v (q + 1 - 1) q (omega arith) ∙ e)
 
-  zero-first : past_front v u 0 ≡ false
+  zero_first : past_front v u 0 ≡ false
   unfolding past_front
-  zero-first = both_if (vacant_by v u 0) _ (λ _. refl)
+  zero_first = both_if (vacant_by v u 0) _ (λ _. refl)
 
   -- the live keys from a live slot, and from a vacant one
   live_here : (d k : ℕ) → k < u → v k % 2 ≡ 1 → live_keys m (suc d) k ≡ key_of m k ∷ live_keys m d (k + 1)
   unfolding live_keys
   live_here d k h e = simp (occupied_yes v u k h e)
 
-  vacant-here : (d k : ℕ) → v k % 2 ≡ 0 → live_keys m (suc d) k ≡ live_keys m d (k + 1)
+  vacant_here : (d k : ℕ) → v k % 2 ≡ 0 → live_keys m (suc d) k ≡ live_keys m d (k + 1)
   unfolding live_keys
-  vacant-here d k e = simp (occupied_no v u k (λ _. e))
+  vacant_here d k e = simp (occupied_no v u k (λ _. e))
 
   none_left : (d k : ℕ) → None m k u → live_keys m d k ≡ []
   unfolding live_keys
@@ -148,15 +148,15 @@ module _ (m : Machine) where
   reach (suc d) (suc e) k h g =
       ap (λ (ks : List Key). pick (occupied_by v u k) (key_of m k ∷ ks) ks) (reach d e (k + 1) (omega arith) (omega arith))
 
-  skip-one : (d k : ℕ) → u ≤ k + d → v k % 2 ≡ 0 → live_keys m d k ≡ live_keys m d (k + 1)
+  skip_one : (d k : ℕ) → u ≤ k + d → v k % 2 ≡ 0 → live_keys m d k ≡ live_keys m d (k + 1)
   unfolding live_keys
-  skip-one zero k h e = refl
-  skip-one (suc d) k h e = vacant-here d k e ∙ reach d (suc d) (k + 1) (omega arith) (omega arith)
+  skip_one zero k h e = refl
+  skip_one (suc d) k h e = vacant_here d k e ∙ reach d (suc d) (k + 1) (omega arith) (omega arith)
 
   skip : (g d k q : ℕ) → k + g ≡ q → u ≤ k + d → None m k q → live_keys m d k ≡ live_keys m d q
   skip zero d k q e h n = ap (live_keys m d) (omega arith)
   skip (suc g) d k q e h n =
-      skip-one d k h (n k (omega arith) (omega arith)) ∙ skip g d (k + 1) q (omega arith) (omega arith) (λ i a z. n i (omega arith) z)
+      skip_one d k h (n k (omega arith) (omega arith)) ∙ skip g d (k + 1) q (omega arith) (omega arith) (λ i a z. n i (omega arith) z)
 
   -- in rising order
   rising : (d k : ℕ) → AscendingFrom k (live_keys m d k)
@@ -172,8 +172,8 @@ module _ (m : Machine) where
   live_keys_rise = rising _ _
 
   -- the key of an occupied slot, as it stands, is live
-  live-of : (i : ℕ) → occupied_by v u i ≡ true → live_by v u (key_of m i) ≡ true
-  live-of i e =
+  live_of_lem : (i : ℕ) → occupied_by v u i ≡ true → live_by v u (key_of m i) ≡ true
+  live_of_lem i e =
       let o = occupied_is v u i e in
       simp (lt-ltb i u o.0, eq-eqb (v i % 2) 1 o.1, eq-eqb (v i) (v i) refl)
 
@@ -208,7 +208,7 @@ module _ (m : Machine) where
   live_keys_live zero k = tt
   live_keys_live (suc d) k =
       by_test (λ (t : Bool). occupied_by v u k ≡ t → AllLive m (pick t (key_of m k ∷ live_keys m d (k + 1)) (live_keys m d (k + 1)))) (occupied_by v u k)
-      (λ e _. (live-of k e, live_keys_live d (k + 1)))
+      (λ e _. (live_of_lem k e, live_keys_live d (k + 1)))
       (λ _ _. live_keys_live d (k + 1)) refl
 
   -- as many as are live
@@ -217,7 +217,7 @@ module _ (m : Machine) where
     where
       go : Dec (v k % 2 ≡ 1) → length (live_keys m (suc d) k) ≡ v k % 2 + length (live_keys m d (k + 1))
       go (yes o) = omega (arith, ap length (live_here d k h o))
-      go (no n) = omega (arith, ap length (vacant-here d k (omega arith)))
+      go (no n) = omega (arith, ap length (vacant_here d k (omega arith)))
 
   count_on : (d k : ℕ) → k + d ≡ u → odd_count v k + length (live_keys m d k) ≡ odd_count v u
   unfolding live_keys
@@ -252,9 +252,9 @@ module _ (l r : List ℕ) (hd : Header) (m : Machine) (s : Shows l r hd m) where
           step (hop_answer_on m c) ≡ found (live_keys m (suc d) c)
       go (visits q w) ih =
           ap step w.answer
-          ∙ ap (visiting (key_of m q)) (ih (q + 1) (omega arith) (after-live m q w.live))
+          ∙ ap (visiting (key_of m q)) (ih (q + 1) (omega arith) (after_live m q w.live))
           ∙ ap found (sym (skip m (q - c) (suc d) c q (omega arith) h w.between ∙ live_here m d q w.below w.live))
       go (stops w) ih = ap step w.answer ∙ ap found (sym (none_left m (suc d) c w.left))
 
   pub walk_visits : walk l r hd m.used 0 ≡ record { keys = live_keys m m.used 0; end = done }
-  walk_visits = walk_from _ _ (omega arith) (zero-first m)
+  walk_visits = walk_from _ _ (omega arith) (zero_first m)

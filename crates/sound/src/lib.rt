@@ -1,4 +1,6 @@
 // The soundness check, which hop.rs does not have: passes over the slots below used and one along the chain. Nothing is written.
+#![tactic(auto)]
+
 mod circle;
 mod ends;
 

@@ -1,4 +1,6 @@
 // Start and room: the calls that take no key and follow no link.
+#![tactic(auto)]
+
 ghost use Rattle.std.specs.Prelude.{◌≡◌};
 ghost use Rattle.rules.specs.Values.{numbered, roomed};
 ghost use Rattle.rules.specs.Start.{start_rule, room_rule};

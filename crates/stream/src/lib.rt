@@ -1,4 +1,6 @@
 // The command stream, fed in pieces of any size: the state goes in and comes back by value, tables, input and output are lent.
+#![tactic(auto)]
+
 mod feeding;
 mod number;
 

@@ -1,4 +1,6 @@
 // The scan of retain: from live slot to live slot, and the ones whose byte is 0 go. hop.rs 603-631
+#![tactic(auto)]
+
 ghost use Rattle.std.specs.Prelude.{◌≡◌, ◌-◌, ◌^◌, ◌<◌};
 ghost use Rattle.rules.specs.Values.{plain, counted};
 ghost use Rattle.rules.specs.Retain.{struck_by};

@@ -1,4 +1,6 @@
 // The bytes of the command stream: the kinds of commands, words as bytes, and what may be replied, which the crate replies writes.
+#![tactic(auto)]
+
 pub mod kinds;
 pub mod words;
 
