@@ -16,6 +16,11 @@ BARE = re.compile(r"(search rules|omega arith|refl|tt)$")
 NAME = r"[^\s(){}\[\].,;\"«»]+"
 
 
+# Steps that respell.py took for fields of the repository's own.
+RENAMED = {"take_back_linked": "take_back", "take_last_linked": "take_last", "join_both_even": "join_both", "join_left_linked": "join_left",
+           "join_right_odd": "join_right", "back_of_run": "back_of", "front_of_run": "front_of", "sound_tests": "sound_test"}
+
+
 def plain(name):
     return name.replace("-", "_").replace("overflow_", "").replace("slice_bounds_", "part_")
 
@@ -71,6 +76,7 @@ class Function:
                 return "??before??"
             return f"(goal.at.{goal} c).{self.new_place[at]}" if goal else f"c.{self.new_place[at]}"
         head, rest = words[0], words[1:]
+        head = RENAMED.get(head, head.removesuffix("_lem"))
         if head in ("args", "requires"):
             pre = self.facts.get("pre")
             if head == "requires" and pre and rest and rest[0].isdigit() and len(pre.get("fields", [])) > 1:
@@ -112,7 +118,7 @@ def convert(crate, path, facts, text):
     invariants, answers, imports = [], [], []
     for head, comment, lines in decls:
         joined = "\n".join(lines).rstrip()
-        if re.match(r"(pub )?\S+-spec\b", lines[0]):
+        if re.match(r"(pub )?\S+[-_]spec\b.*statement", lines[0]):
             continue
         sig = re.match(rf"(?:abbrev |unfoldable |pub )*({NAME})\s*:\s*tie\.({NAME})(.*)", lines[0])
         if sig and re.match(r"(invariant|decreases)-", sig[2]):

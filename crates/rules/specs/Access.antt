@@ -1,6 +1,7 @@
 -- Row access: the number of a key, the part of the rows that a look hands back, the row by value, and replace.
 use Rattle.std.specs.Prelude.{ℕ, ◌+◌, ◌*◌, List, [], ◌≡◌, length, eqb}
-use Rattle.std.specs.Borrow.{Bor}
+use Rattle.std.specs.Borrow.{Bor, MutBor}
+use denote.MutBor.{as_bor}
 use Rattle.rules.specs.Choice.{pick}
 use Rattle.rules.specs.Words.{row_words, row_at, set_row}
 use Rattle.rules.specs.Values.{Outcome, plain, keyed, done, unless}
@@ -31,6 +32,10 @@ StartsAt part whole w = part.ref_ptr ≡ (whole.ref_ptr.0, w * word_bytes + whol
 pub record RowPart (l : List ℕ) (rows : Bor (List ℕ)) (hd : Header) (key : Key) (part : Bor (List ℕ)) : Type 0 where
   pub words : part.now ≡ look_rule l rows.now hd key
   pub place : StartsAt part rows (look_start l rows.now hd key)
+
+-- the same of a part that is lent to write through
+abbrev pub RowPartMut : List ℕ → MutBor (List ℕ) → Header → Key → MutBor (List ℕ) → Type 0
+RowPartMut l rows hd key part = RowPart l (as_bor rows) hd key (as_bor part)
 
 -- a look by value, for who cannot be handed a part: the key and its row
 unfoldable pub look_row_rule : List ℕ → List ℕ → Header → Key → Outcome

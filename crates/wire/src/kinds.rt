@@ -4,6 +4,7 @@ ghost use Rattle.wire.specs.Commands.{command_of, body_length};
 
 use crate::Command;
 
+#[tactic(auto, unfolding(crate::specs::Commands::command_of))]
 pub fn command_of(kind: u8) -> Command
     ensures { result ≡ command_of kind }
 {

@@ -1,0 +1,7 @@
+use Rattle.rules.specs.Refusals.{live_key}
+use borrow.Author.Rules.{rules}
+use Rattle.refusals.proofs.live_key.Goals as goal
+
+pub returns : goal.returns
+unfolding live_key
+returns c = cc

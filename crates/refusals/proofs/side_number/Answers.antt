@@ -1,0 +1,7 @@
+use Rattle.rules.specs.Refusals.{side_number}
+use borrow.Author.Rules.{rules}
+use Rattle.refusals.proofs.side_number.Goals as goal
+
+pub returns : goal.returns
+unfolding side_number
+returns c = rw c.or_if.ensures
