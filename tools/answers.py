@@ -61,6 +61,7 @@ class Function:
         self.places = {p[0]: p for p in facts["places"]}
         self.new_place = dict(zip([p[0] for p in facts["places"]], facts["places_by_name"]))
         self.old_place = {n: o for o, n in self.new_place.items()}
+        self.helpers = {}
         self.clauses = {p[0]: c for p, c in zip(facts["places"], facts["clauses"])}
 
     def follow(self, words, place, goal):
@@ -104,9 +105,14 @@ class Function:
         return ".".join(["c", self.places[found][2][1]] + rest)
 
     def body(self, text, place, goal):
+        for helper, at in self.helpers.items():
+            if goal:
+                text = re.sub(rf"(?<![\w.'-]){re.escape(helper)} (\(c(\.before)*\)|c(\.before)*(?![\w.'-]))", f"{helper} (goal.at.{goal} c).{at}", text)
         def path(m):
             return self.follow(m[0].split(".")[1:], place, goal)
         text = re.sub(rf"(?<![\w.'-])c(?:\.{NAME})+", path, text)
+        # the test of `!x` says today what the test of x says
+        text = re.sub(rf"not-(true|false) c\.{NAME}\.result (c\.{NAME}\.\1)\b".replace(NAME, r"[^\s().]+"), r"\2", text)
         return text
 
 
@@ -161,15 +167,16 @@ def convert(crate, path, facts, text):
             place = f.old_place.get(f.asked[new])
             answers.append("\n".join(comment + [f"pub {new} : goal.{new}"] + unfolding + [f"{new} c = {f.body(m[1].strip(), place, new)}"]))
             continue
-        m = re.match(rf"(?:abbrev |unfoldable |pub )*({NAME})\s*:\s*\(c : tie\.({NAME})\)", lines[0])
+        m = re.match(rf"(?:abbrev |unfoldable |pub )*({NAME})\s*:\s*\(c : tie\.({NAME})[^()]*\)", lines[0])
         if m:
             place = next((p for p in f.places if plain(p) == plain(m[2])), None)
             new = f.new_place.get(place, "??" + m[2])
             imports.append(new)
-            sigline = lines[0].replace(f"tie.{m[2]}", new)
-            answers.append(f.body("\n".join([sigline] + lines[1:]).rstrip(), place, None))
+            sigline = re.sub(rf"tie\.{re.escape(m[2])}[^()]*\)", new + ")", lines[0])
+            f.helpers[m[1]] = new
+            answers.append("\n".join(comment) + ("\n" if comment else "") + f.body("\n".join([sigline] + lines[1:]).rstrip(), place, None))
             continue
-        answers.append(joined)
+        answers.append("\n".join(comment + [joined]))
     out = {}
     if invariants:
         out["Invariants.antt"] = "\n".join(keep + [f"use {stem}.Given as goal", ""]) + "\n" + "\n\n".join(invariants) + "\n"

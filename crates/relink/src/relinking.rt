@@ -38,7 +38,7 @@ fn chain_run(links: &mut [u32], p: u32, f: u32, b: u32)
 
 // A front is kept in mind, and at a back its run is chained.
 fn chain_slot(links: &mut [u32], n: u32, i: u32, at: Fronts) -> Fronts
-    ensures { record { links = links.exit.now; front = result.front; last = result.last } ≡ chain_slot n i (record { links = links.entry.now; front = at.front; last = at.last }) }
+    ensures { record { links = links.new; front = result.front; last = result.last } ≡ chain_slot n i (record { links = links.old; front = at.front; last = at.last }) }
 {
     let front = if is_front(links, n, i) { i } else { at.front };
     if !is_back(links, n, i) {
@@ -53,7 +53,7 @@ fn chain_slot(links: &mut [u32], n: u32, i: u32, at: Fronts) -> Fronts
 
 // The runs in rising order, and prev(0) their last, which hop.rs leaves out.
 fn chain_slots(links: &mut [u32], n: u32)
-    ensures { links.exit.now ≡ closed (chain_slots n n (record { links = links.entry.now; front = 0; last = 0 })) }
+    ensures { links.new ≡ closed (chain_slots n n (record { links = links.old; front = 0; last = 0 })) }
 {
     let mut at = Fronts { front: 0, last: 0 };
     let mut i = 0;
@@ -66,7 +66,7 @@ fn chain_slots(links: &mut [u32], n: u32)
 
 // The links made anew, and the header that goes with them. The odd versions are counted before anything is written.
 pub fn relink(links: &mut [u32], n: u32) -> Header
-    ensures { record { links = links.exit.now; header = result } ≡ relinked links.entry.now n }
+    ensures { record { links = links.new; header = result } ≡ relinked links.old n }
 {
     let odds = odd_count(links, n);
     unlink(links, n);

@@ -1,0 +1,14 @@
+use Rattle.rules.specs.Values.{Outcome, plain, counted}
+use Rattle.rules.specs.Retain.{struck_by}
+use Rattle.rules.specs.declared.Header.{Header}
+use Rattle.rules.proofs.Choice.{by_pick}
+use Rattle.runs.specs.Scans.{Scan, strike_out, scan_one, scan_start, scans}
+use Rattle.std.proofs.Common.{◌≡◌, ℕ, zero, suc, ◌+◌, ◌-◌, ◌≤◌, Bool, List, length, refl, ap, add-one, arith, rules}
+use Rattle.strike.proofs.scan.Given as goal
+
+abbrev pub invariant-loop-seen : goal.invariant-loop-seen
+invariant-loop-seen l = (l.seen ≤ l.header.live) × (length l.links ≡ length l.initial.links) × (length l.rows ≡ length l.initial.rows)
+    × (record { slot = l.cur; outcome = plain (counted l.struck.count) l.struck.header l.links l.rows } ≡ scans (struck_by l.bytes) l.seen (scan_start l.initial.links l.initial.rows l.header))
+
+abbrev pub decreases-loop-seen : goal.decreases-loop-seen
+decreases-loop-seen l = l.header.live - l.seen
