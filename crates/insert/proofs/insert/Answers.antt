@@ -15,7 +15,9 @@ past : (c : Else-number-ne-PASSES) → InsertPassed c.args.links.now c.args.rows
 past c = insert_passed _ _ _ _ _ (sym c.insert_number-number.ensures ∙ c.if-number-ne-PASSES.false)
 
 pub insert_step-requires : goal.insert_step-requires
-insert_step-requires c = (omega (arith, (past (goal.at.insert_step-requires c).Else-number-ne-PASSES).shaped.within, (past (goal.at.insert_step-requires c).Else-number-ne-PASSES).shaped.lent.most), (past (goal.at.insert_step-requires c).Else-number-ne-PASSES).shaped.few)
+insert_step-requires c =
+    let p = past (goal.at.insert_step-requires c).Else-number-ne-PASSES in
+    record { used_bound = omega (arith, p.shaped.within, p.shaped.lent.most); live_lt_used = p.shaped.few }
 
 pub returns : goal.returns
 unfolding insert_rule insert_by
