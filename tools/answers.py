@@ -111,6 +111,10 @@ class Function:
         def path(m):
             return self.follow(m[0].split(".")[1:], place, goal)
         text = re.sub(rf"(?<![\w.'-])c(?:\.{NAME})+", path, text)
+        # what a match tells of the value matched
+        arm = re.search(r"-in-(\w+)$", goal or "")
+        if arm:
+            text = re.sub(r"c\.[\w?-]+\.given\.1", f"c.in-{arm[1]}.is", text)
         # the test of `!x` says today what the test of x says
         text = re.sub(rf"not-(true|false) c\.{NAME}\.result (c\.{NAME}\.\1)\b".replace(NAME, r"[^\s().]+"), r"\2", text)
         return text

@@ -9,7 +9,7 @@ pub use turns::{calm, command_turn, walk_turn};
 use wire::{Body, Command, Saying};
 
 // Where the stream stands: before a kind; in a body of which so many bytes have come; in a walk, at a cursor; at its end.
-#[derive(Drop)]
+#[derive(Clone, Copy)]
 pub enum Phase {
     Between,
     Gathering(Command, u32),
@@ -18,7 +18,7 @@ pub enum Phase {
 }
 
 // The state of a stream: all that is kept from one piece to the next, but for the tables.
-#[derive(Drop)]
+#[derive(Clone, Copy)]
 pub struct Stream {
     pub header: Header,
     pub phase: Phase,

@@ -14,7 +14,7 @@ use hop::Cursor;
 use replies::{fits, put_reply};
 
 // How far a piece is: the state, the bytes taken of the input and written to the output.
-#[derive(Drop)]
+#[derive(Clone, Copy)]
 pub struct Progress {
     pub stream: Stream,
     pub taken: usize,
@@ -54,7 +54,7 @@ fn heard_once(
 }
 
 // Whether a walk is under way, and where it stands.
-#[derive(Drop)]
+#[derive(Clone, Copy)]
 pub struct Afoot {
     pub walks: bool,
     pub cursor: Cursor,

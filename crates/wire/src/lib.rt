@@ -7,7 +7,7 @@ pub mod words;
 use rules::Key;
 
 // What a command's first byte asks for.
-#[derive(Drop)]
+#[derive(Clone, Copy)]
 pub enum Command {
     Insert,
     Remove,
@@ -27,7 +27,7 @@ pub type Body = [u8; BODY_BYTES];
 pub const LONGEST: usize = 41;
 
 // What is replied: nothing, a key, a key with the row that stands beside this, done, or a number.
-#[derive(Drop)]
+#[derive(Clone, Copy)]
 pub enum Saying {
     Silent,
     WithKey(Key),
