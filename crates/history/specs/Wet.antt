@@ -1,6 +1,6 @@
 -- A damaged table on four slots: three rows are live, slot 0's row is not zero, and prev(0) leads past the slots in use. Calls that are
 -- refused on it, the answer beside each call, and what there is to say of them. proofs/Tried has the one statement.
-use Rattle.std.specs.Prelude.{ℕ, List, [], ◌∷◌, ◌++◌, map, ◌≡◌}
+use Rattle.std.specs.Prelude.{List, [], ◌∷◌, ◌++◌, map, ◌≡◌}
 use Rattle.rules.specs.Words.{zero_row}
 use Rattle.rules.specs.Values.{Values, refused}
 use Rattle.rules.specs.Refusals.{shape, damaged, even_version, not_live, wrong_presence}

@@ -1,19 +1,17 @@
 // The command program: a command stream of any length from standard input, its replies to standard output. The map is `hop`, the stream is
-// `stream`; here is only what reads and writes. A main of Rattle hands back no exit status: what fails is said on standard error. A pipe that
-// nobody reads any more ends the program by its signal, as it ends any program.
+// `stream`; here is only what reads and writes. What fails is said on standard error, and the exit status is 0 all the same.
 #![tactic(auto)]
 
-ghost use Rattle.std.specs.Prelude.{◌≡◌, ◌+◌, ◌≤◌, ◌<◌, ◌^◌, length, take};
+ghost use Rattle.std.specs.Prelude.{◌≡◌, ◌+◌, ◌≤◌, ◌<◌, ◌^◌, min, length, take};
 ghost use Rattle.rules.specs.Start.{start_rule};
 ghost use Rattle.history.specs.Histories.{left};
-ghost use Rattle.io.specs.Counts.{clamp_len};
 ghost use Rattle.commands.specs.Turns.{run_of};
 ghost use Rattle.stream.specs.Feeding.{feed_rule};
 ghost use Rattle.course.specs.Pieces.{Reached};
 ghost use Rattle.program.specs.Places.{opening, InBuffer, rest_of, stopped_at, goes_on, fed_at, around, fed_to, read_to};
 
 use hop::Header;
-use libc::{STDERR_FILENO, STDIN_FILENO, STDOUT_FILENO};
+use std::io::{Print, Read};
 use stream::{Fed, Phase, Stream};
 
 // The words of both tables, 1,024 slots, and the bytes of each buffer.
@@ -32,7 +30,7 @@ struct Started {
 
 // Where the program stands: whether it goes on, whether the input is over, whether the last piece is still to be fed, what of the input buffer
 // is left of it, and the state of the stream. With nothing left a piece may wait all the same: for room, to go on with its last walk.
-#[derive(Drop)]
+#[derive(Clone, Copy)]
 struct Place {
     goes: bool,
     over: bool,
@@ -47,7 +45,7 @@ fn start_map(links: &mut [u32], rows: &mut [u32]) -> Started
     requires links_len { length links.old ≡ 4096 }
     requires rows_len { length rows.old ≡ 8192 }
     ensures value { result ≡ record { number = 0; stream = opening } }
-    ensures header_after { record { links = links.exit.now; rows = rows.new; header = result.stream.header } ≡ left (start_rule links.entry.now rows.old (record { used = 0; live = 0 })) }
+    ensures header_after { record { links = links.new; rows = rows.new; header = result.stream.header } ≡ left (start_rule links.old rows.old (record { used = 0; live = 0 })) }
 {
     let made = hop::start(links, rows, Header { used: 0, live: 0 });
     Started {
@@ -64,21 +62,26 @@ fn replied<'a>(out: &'a [u8], n: usize) -> &'a [u8]
     &out[0..n]
 }
 
+// Says on standard error what failed. Where that fails too, nobody is left to be told.
+fn tell(rt: HostRuntime, message: &[u8]) {
+    let _told = rt.stderr().write_all(message).is_ok();
+}
+
 // Writes what was replied, and answers whether that went well. No piece is refused (never_refused, of the laws of `course`).
-fn write_reply(out: &[u8], fed: Fed) -> bool
+fn write_reply(rt: HostRuntime, out: &[u8], fed: Fed) -> bool
     requires { fed.written ≤ length out.now }
 {
     if fed.number != 0 {
-        io::write_all(
-            STDERR_FILENO,
+        tell(
+            rt,
             b"program: the stream was refused, which is a fault of the program; the replies so far are complete\n",
         );
         return false;
     }
-    let well = io::write_all(STDOUT_FILENO, replied(out, fed.written));
+    let well = rt.stdout().write_all(replied(out, fed.written)).is_ok();
     if !well {
-        io::write_all(
-            STDERR_FILENO,
+        tell(
+            rt,
             b"program: writing standard output failed; replies are lost: give it a place that takes them\n",
         );
     }
@@ -115,7 +118,14 @@ fn fed_at(p: Place, fed: Fed, well: bool) -> Place
 }
 
 // Feeds what is left of the piece, and writes what was replied.
-fn feed_rest(links: &mut [u32], rows: &mut [u32], input: &[u8], out: &mut [u8], p: Place) -> Place
+fn feed_rest(
+    rt: HostRuntime,
+    links: &mut [u32],
+    rows: &mut [u32],
+    input: &[u8],
+    out: &mut [u8],
+    p: Place,
+) -> Place
     requires { InBuffer p (length input.now) }
     ensures in_buffer { InBuffer result (length input.now) }
     ensures out_after { around result links.new rows.new out.new ≡ fed_to p (feed_rule (run_of links.old rows.old p.stream) (rest_of p input.now) out.old) result.goes }
@@ -123,20 +133,20 @@ fn feed_rest(links: &mut [u32], rows: &mut [u32], input: &[u8], out: &mut [u8], 
     let at = p.at;
     let end = p.end;
     let fed = stream::feed(links, rows, p.stream, &input[at..end], out);
-    let well = write_reply(out, fed);
+    let well = write_reply(rt, out, fed);
     fed_at(p, fed, well)
 }
 
 // The piece that was read: as many bytes as `read` said, from the buffer's first on, and all of it waits.
-fn piece_read(got: isize, input: &[u8], s: Stream) -> Place
-    ensures { result ≡ read_to (clamp_len got (length input.now)) s }
+fn piece_read(got: usize, input: &[u8], s: Stream) -> Place
+    ensures { result ≡ read_to (min got (length input.now)) s }
 {
     Place {
         goes: true,
         over: false,
         waits: true,
         at: 0,
-        end: io::count(got, input),
+        end: got.min(input.len()),
         stream: s,
     }
 }
@@ -156,39 +166,52 @@ fn stopped(over: bool, s: Stream) -> Place
 }
 
 // Reads the next piece. What was replied so far is written by now.
-fn read_piece(input: &mut [u8], s: Stream) -> Place
+fn read_piece(rt: HostRuntime, input: &mut [u8], s: Stream) -> Place
     ensures in_buffer { InBuffer result (length input.old) }
     ensures stream_value { result.stream ≡ s }
 {
-    let got = libc::read(STDIN_FILENO, input);
-    if got < 0 {
-        io::write_all(
-            STDERR_FILENO,
-            b"program: reading standard input failed; the replies so far are complete\n",
-        );
-        return stopped(false, s);
+    match rt.stdin().read(input) {
+        Ok(0) => stopped(true, s),
+        Ok(got) => piece_read(got, input, s),
+        Err(_) => {
+            tell(
+                rt,
+                b"program: reading standard input failed; the replies so far are complete\n",
+            );
+            stopped(false, s)
+        }
     }
-    if got == 0 {
-        return stopped(true, s);
-    }
-    piece_read(got, input, s)
 }
 
 // One round: the last piece is fed on, or the next one is read. Tables and state go where pieces of the stream lead.
-fn round(links: &mut [u32], rows: &mut [u32], input: &mut [u8], out: &mut [u8], p: Place) -> Place
+fn round(
+    rt: HostRuntime,
+    links: &mut [u32],
+    rows: &mut [u32],
+    input: &mut [u8],
+    out: &mut [u8],
+    p: Place,
+) -> Place
     requires { InBuffer p (length input.old) }
     ensures in_buffer { InBuffer result (length input.old) }
     ensures reached { Reached (run_of links.old rows.old p.stream) (run_of links.new rows.new result.stream) }
 {
     if p.waits {
-        return feed_rest(links, rows, input, out, p);
+        return feed_rest(rt, links, rows, input, out, p);
     }
-    read_piece(input, p.stream)
+    read_piece(rt, input, p.stream)
 }
 
 // Round after round, and answers where the program stands then. A proved loop has to end, and nothing says that the input does: the rounds count
 // down from a number that no run uses up.
-fn serve(links: &mut [u32], rows: &mut [u32], input: &mut [u8], out: &mut [u8], s: Stream) -> Place
+fn serve(
+    rt: HostRuntime,
+    links: &mut [u32],
+    rows: &mut [u32],
+    input: &mut [u8],
+    out: &mut [u8],
+    s: Stream,
+) -> Place
     ensures { Reached (run_of links.old rows.old s) (run_of links.new rows.new result.stream) }
 {
     let mut p = Place {
@@ -201,33 +224,33 @@ fn serve(links: &mut [u32], rows: &mut [u32], input: &mut [u8], out: &mut [u8], 
     };
     let mut rounds = u64::MAX;
     while rounds > 0 && p.goes {
-        p = round(links, rows, input, out, p);
+        p = round(rt, links, rows, input, out, p);
         rounds -= 1;
     }
     p
 }
 
 // At the end of the input a body cut short is answered.
-fn finish(links: &[u32], rows: &[u32], out: &mut [u8], p: Place) {
+fn finish(rt: HostRuntime, links: &[u32], rows: &[u32], out: &mut [u8], p: Place) {
     if p.over {
         let fed = stream::finish(links, rows, p.stream, out);
-        write_reply(out, fed);
+        write_reply(rt, out, fed);
     }
 }
 
-fn main() {
+fn main(rt: HostRuntime) {
     let mut links = [0u32; LINKS];
     let mut rows = [0u32; ROWS];
     let mut input = [0u8; BUFFER];
     let mut out = [0u8; BUFFER];
     let made = start_map(&mut links, &mut rows);
     if made.number != 0 {
-        io::write_all(
-            STDERR_FILENO,
+        tell(
+            rt,
             b"program: the tables were refused, which is a fault of the program; nothing was read\n",
         );
         return;
     }
-    let p = serve(&mut links, &mut rows, &mut input, &mut out, made.stream);
-    finish(&links, &rows, &mut out, p);
+    let p = serve(rt, &mut links, &mut rows, &mut input, &mut out, made.stream);
+    finish(rt, &links, &rows, &mut out, p);
 }

@@ -9,7 +9,6 @@ use Rattle.runs.proofs.Chosen.{clear_ends}
 use Prim.Native.Nat.{ℕ, ◌+◌}
 use mathlib.Core.List.{List}
 use mathlib.Core.Path.{◌≡◌, sym, ap, ◌∙◌}
-use borrow.Author.Rules.{rules}
 use Rattle.clear.proofs.clear.Goals as goal
 
 -- an outcome that is done and has no row
@@ -31,6 +30,7 @@ unfolding clear_rule
 returns-then-number-ne-PASSES c = refused_by _ _ _ _ _ (rw c.entry_number-entry.ensures at c.sound_number-number.ensures) _ c.if-number-ne-PASSES.true
 
 pub returns : goal.returns
-returns c = drained-by _ _ _ _
+returns c =
+    drained-by _ _ _ _
     (rw c.entry_number-entry.ensures at c.sound_number-number.ensures)
     c.if-number-ne-PASSES.false _ c.drain_all-last.ensures

@@ -5,7 +5,6 @@ use Prim.Native.Nat.{ℕ, ◌+◌, ◌-◌}
 use mathlib.Core.Path.{◌≡◌, refl, sym, ◌∙◌}
 use native.Mathlib.Numerals.{add-one}
 use native.Mathlib.Omega.{arith}
-use lib.ListN.{length}
 use borrow.Author.Rules.{rules}
 use Rattle.clear.proofs.drain_all.Goals as goal
 
@@ -24,12 +23,14 @@ pub loop-left-init : goal.loop-left-init
 loop-left-init c = (refl, refl, refl)
 
 pub loop-left-preserved : goal.loop-left-preserved
-loop-left-preserved c = let v = c.loop-left in (
+loop-left-preserved c =
+    let v = c.loop-left in (
       search rules,
       search rules,
       sym (first_step v.left (v.left - 1) (omega arith) (drained v.last v.links v.rows) _ c.drain_step-last-in-loop-left.ensures) ∙ v.invariant.2,
     )
 
 pub returns : goal.returns
-returns c = let v = c.loop-left in
+returns c =
+    let v = c.loop-left in
     sym (no_step v.left (omega arith) _) ∙ v.invariant.2 ∙ sym (first_step _ _ refl _ _ c.drain_step-last.ensures)

@@ -1,12 +1,7 @@
-use Rattle.rules.specs.Values.{Outcome, drained}
-use Rattle.rules.specs.Drain.{drain_rule}
+use Rattle.rules.specs.Values.{drained}
 use Rattle.rules.specs.Clear.{drain_times}
-use Prim.Native.Nat.{ℕ, ◌+◌, ◌-◌}
-use mathlib.Core.Path.{◌≡◌, refl, sym, ◌∙◌}
-use native.Mathlib.Numerals.{add-one}
-use native.Mathlib.Omega.{arith}
+use mathlib.Core.Path.{◌≡◌}
 use lib.ListN.{length}
-use borrow.Author.Rules.{rules}
 use Rattle.clear.proofs.drain_all.Given as goal
 
 abbrev pub invariant-loop-left : goal.invariant-loop-left

@@ -4,7 +4,6 @@ use Rattle.rules.proofs.RemoveSteps.{refused_past_used}
 use mathlib.Core.Path.{sym}
 use borrow.Author.Tests.{eq-eqb, ne_eqb}
 use native.Mathlib.Omega.{arith}
-use borrow.Author.Rules.{rules}
 use Rattle.drain_step.proofs.drain_step.Goals as goal
 
 pub returns-then-number-ne-PASSES : goal.returns-then-number-ne-PASSES

@@ -1,7 +1,6 @@
 use Rattle.rules.proofs.Links.{occupied}
-use borrow.Author.Tests.{eq-eqb, ne_eqb, not-true, not-false}
+use borrow.Author.Tests.{eq-eqb, ne_eqb}
 use mathlib.Core.Path.{sym, ◌∙◌}
-use borrow.Author.Rules.{rules}
 use Rattle.hop_step.proofs.after_run.Goals as goal
 
 pub returns-then-q-used : goal.returns-then-q-used

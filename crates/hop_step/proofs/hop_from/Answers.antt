@@ -1,7 +1,6 @@
 use Rattle.rules.proofs.Links.{else_vacant}
 use Rattle.rules.proofs.HopSteps.{at_end, at_occupied}
 use mathlib.Core.Path.{sym, ◌∙◌}
-use borrow.Author.Rules.{rules}
 use Rattle.hop_step.proofs.hop_from.Goals as goal
 
 pub returns-then-used-cursor : goal.returns-then-used-cursor

@@ -2,10 +2,9 @@ use Rattle.rules.specs.Refusals.{◌▸◌}
 use Rattle.rules.specs.Hop.{hop_from, hop_number}
 use Rattle.rules.proofs.Links.{Vacant, vacant}
 use Rattle.rules.proofs.HopSteps.{inside_run, over_run}
-use borrow.Author.Tests.{lt-ltb, not-true, not-false}
+use borrow.Author.Tests.{lt-ltb}
 use mathlib.Core.Path.{sym, ◌∙◌}
 use native.Mathlib.Omega.{arith}
-use borrow.Author.Rules.{rules}
 use Rattle.hop_step.proofs.hop_over.Goals as goal
 use Rattle.hop_step.proofs.hop_over.Goals.{Else-not-vacant}
 

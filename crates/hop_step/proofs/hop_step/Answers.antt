@@ -1,6 +1,5 @@
 use Rattle.rules.specs.Hop.{hop_rule}
 use Rattle.rules.proofs.Outcomes.{refused_by, done_by}
-use borrow.Author.Rules.{rules}
 use Rattle.hop_step.proofs.hop_step.Goals as goal
 
 pub returns-then-number-ne-PASSES : goal.returns-then-number-ne-PASSES

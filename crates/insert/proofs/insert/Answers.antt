@@ -3,7 +3,6 @@ use Rattle.rules.proofs.Outcomes.{refused_by, done_by}
 use Rattle.rules.proofs.Links.{InsertPassed, insert_passed}
 use mathlib.Core.Path.{sym, ◌∙◌}
 use native.Mathlib.Omega.{arith}
-use borrow.Author.Rules.{rules}
 use Rattle.insert.proofs.insert.Goals as goal
 use Rattle.insert.proofs.insert.Goals.{Else-number-ne-PASSES}
 

@@ -1,6 +1,5 @@
 use Rattle.rules.specs.Insert.{insert_step}
 use borrow.Author.Tests.{eq-eqb, ne_eqb}
-use borrow.Author.Rules.{rules}
 use Rattle.insert.proofs.insert_step.Goals as goal
 
 pub returns-then-x-eq0 : goal.returns-then-x-eq0

@@ -1,7 +1,6 @@
 use Rattle.rules.specs.Insert.{take_new}
 use Rattle.rules.proofs.Headers.{more_used}
 use native.Mathlib.Omega.{arith}
-use borrow.Author.Rules.{rules}
 use Rattle.insert.proofs.take_new.Goals as goal
 
 pub returns : goal.returns

@@ -1,6 +1,5 @@
 use Rattle.rules.specs.Insert.{take_slot}
 use Rattle.rules.proofs.Headers.{more}
-use borrow.Author.Rules.{rules}
 use Rattle.insert.proofs.take_slot.Goals as goal
 
 pub returns : goal.returns

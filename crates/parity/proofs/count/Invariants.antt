@@ -1,11 +1,8 @@
 use Rattle.rules.specs.Choice.{pick, count_below}
 use Rattle.rules.specs.Words.{is_odd, version_at}
 use Rattle.rules.specs.Runs.{is_front}
-use Rattle.rules.proofs.Below.{count_on}
 use Prim.Native.Nat.{ℕ, ◌-◌, ◌≤◌}
 use mathlib.Core.Path.{◌≡◌}
-use native.Mathlib.Omega.{arith}
-use borrow.Author.Rules.{rules}
 use Rattle.parity.proofs.count.Given as goal
 
 -- `parity::count` meets its contract. The loop's invariant: the count so far is that of the slots passed. Assumes nothing.

@@ -1,4 +1,3 @@
-use borrow.Author.Rules.{rules}
 use Rattle.parity.proofs.counted.Goals as goal
 
 pub returns-then-fronts : goal.returns-then-fronts

@@ -1,7 +1,6 @@
 use Rattle.rules.specs.Words.{vacant_at}
 use Rattle.rules.specs.Runs.{is_back}
 use borrow.Author.Tests.{le-ltb}
-use borrow.Author.Rules.{rules}
 use Rattle.parity.proofs.is_back.Goals as goal
 
 pub returns-then-used-i : goal.returns-then-used-i

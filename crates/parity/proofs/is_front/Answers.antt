@@ -1,6 +1,5 @@
 use Rattle.rules.specs.Words.{vacant_at}
 use Rattle.rules.specs.Runs.{is_front}
-use borrow.Author.Rules.{rules}
 use Rattle.parity.proofs.is_front.Goals as goal
 
 pub returns : goal.returns

@@ -3,7 +3,6 @@ use Rattle.rules.proofs.Outcomes.{numbered_by, done_by}
 use Rattle.rules.proofs.Rebuild.{Sized, rebuild_passed}
 use mathlib.Core.Path.{sym, ◌∙◌}
 use native.Mathlib.Omega.{arith}
-use borrow.Author.Rules.{rules}
 use Rattle.rebuild.proofs.rebuild.Goals as goal
 use Rattle.rebuild.proofs.rebuild.Goals.{Else-number-ne-PASSES}
 

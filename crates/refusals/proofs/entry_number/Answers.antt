@@ -1,5 +1,4 @@
 use Rattle.rules.specs.Refusals.{entry_number}
-use borrow.Author.Rules.{rules}
 use Rattle.refusals.proofs.entry_number.Goals as goal
 
 pub returns : goal.returns

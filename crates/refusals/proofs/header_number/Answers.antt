@@ -1,10 +1,10 @@
 use Rattle.rules.specs.Refusals.{header_number}
-use borrow.Author.Rules.{rules}
 use Rattle.refusals.proofs.header_number.Goals as goal
 
 pub returns : goal.returns
 unfolding header_number
-returns c = rw (
+returns c =
+    rw (
       c.or_if.ensures,
       c.or_if-n-2.ensures,
       c.or_if-n.ensures,

@@ -1,5 +1,4 @@
 use Rattle.rules.specs.Access.{key_number}
-use borrow.Author.Rules.{rules}
 use Rattle.refusals.proofs.key_number.Goals as goal
 
 pub returns : goal.returns

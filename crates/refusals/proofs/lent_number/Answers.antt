@@ -1,10 +1,10 @@
 use Rattle.rules.specs.Refusals.{lent_number}
-use borrow.Author.Rules.{rules}
 use Rattle.refusals.proofs.lent_number.Goals as goal
 
 pub returns : goal.returns
 unfolding lent_number
-returns c = rw (
+returns c =
+    rw (
       c.or_if.ensures,
       c.or_if-n-4.ensures,
       c.or_if-n-3.ensures,

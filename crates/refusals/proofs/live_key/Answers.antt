@@ -1,5 +1,4 @@
 use Rattle.rules.specs.Refusals.{live_key}
-use borrow.Author.Rules.{rules}
 use Rattle.refusals.proofs.live_key.Goals as goal
 
 pub returns : goal.returns

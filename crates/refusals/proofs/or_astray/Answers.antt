@@ -1,4 +1,3 @@
-use borrow.Author.Rules.{rules}
 use Rattle.refusals.proofs.or_astray.Goals as goal
 
 pub returns : goal.returns

@@ -1,7 +1,7 @@
 use Rattle.rules.specs.Remove.{remove_rule}
 use Rattle.rules.proofs.Access.{live_within}
 use Rattle.rules.proofs.Outcomes.{refused_by, done_by}
-use Rattle.std.proofs.Common.{sym, ◌∙◌, rules}
+use Rattle.std.proofs.Common.{sym, ◌∙◌}
 use Rattle.remove.proofs.remove.Goals as goal
 
 pub returns-then-number-ne-PASSES : goal.returns-then-number-ne-PASSES

@@ -1,7 +1,6 @@
 use Rattle.rules.proofs.Links.{Occupied, occupied}
 use Rattle.rules.proofs.RemoveSteps.{refused_slot, removed_slot}
-use Rattle.std.proofs.Common.{sym, ◌∙◌, rules}
-use borrow.Author.Tests.{not-true, not-false}
+use Rattle.std.proofs.Common.{sym, ◌∙◌}
 use Rattle.remove.proofs.remove_at.Goals as goal
 use Rattle.remove.proofs.remove_at.Goals.{Else-not-occupied}
 

@@ -1,6 +1,5 @@
 use Rattle.rules.specs.Remove.{remove_slot, remove_by}
 use Rattle.rules.proofs.Outcomes.{refused_by, done_by}
-use Rattle.std.proofs.Common.{rules}
 use Rattle.remove.proofs.remove_slot.Goals as goal
 
 pub returns-then-damage-ne-PASSES : goal.returns-then-damage-ne-PASSES

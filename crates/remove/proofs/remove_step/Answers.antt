@@ -1,10 +1,10 @@
 use Rattle.rules.specs.Remove.{remove_step}
-use Rattle.std.proofs.Common.{rules}
 use Rattle.remove.proofs.remove_step.Goals as goal
 
 pub returns : goal.returns
 unfolding remove_step
-returns c = rw (
+returns c =
+    rw (
       c.one_less.ensures,
       c.clear_row.ensures,
       c.row-words.ensures,

@@ -14,7 +14,8 @@ returns-then-room-lt-LONGEST c = simp (lt-leb (c.args.at + longest) c.args.room 
 
 pub returns : goal.returns
 unfolding fits
-returns c = let at = c.args.at in
+returns c =
+    let at = c.args.at in
     let room = c.args.room in
     by_test (λ (t : Bool). leb at (room - longest) ≡ t) (leb (at + longest) room)
     (λ h. le-leb at (room - longest) (omega (arith, leb-true (at + longest) room h)))

@@ -1,4 +1,3 @@
-use borrow.Author.Rules.{rules}
 use Rattle.wire.specs.Words.{key_bytes}
 use Rattle.wire.proofs.Sets.{sets_append}
 use Rattle.wire.proofs.Lengths.{length_bytes}
@@ -6,7 +5,8 @@ use Rattle.replies.proofs.put_key.Goals as goal
 
 pub returns : goal.returns
 unfolding key_bytes
-returns c = rw (
+returns c =
+    rw (
       c.put_word-2.ensures,
       c.put_word.ensures,
       sets_append,

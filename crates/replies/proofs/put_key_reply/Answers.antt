@@ -1,8 +1,6 @@
 use native.Mathlib.Numerals.{add-one}
 use native.Mathlib.Omega.{arith}
 use lib.ListN.{length-set}
-use lib.Seq.{length-sets}
-use borrow.Author.Rules.{rules}
 use Rattle.replies.proofs.put_key_reply.Goals as goal
 
 pub put_key-requires : goal.put_key-requires

@@ -1,9 +1,6 @@
-use mathlib.Core.Path.{◌≡◌, refl}
-use Prim.Native.Nat.{◌-◌, ◌≤◌}
+use mathlib.Core.Path.{refl}
 use native.Mathlib.Omega.{arith}
-use lib.ListN.{length, take}
-use lib.Seq.{sets, length-sets, take_all}
-use Rattle.rules.specs.Words.{row_words}
+use lib.Seq.{length-sets, take_all}
 use Rattle.wire.specs.Words.{words_bytes}
 use Rattle.wire.proofs.Sets.{sets_words_more}
 use Rattle.replies.proofs.put_row.Goals as goal
@@ -13,7 +10,8 @@ unfolding words_bytes
 loop-k-init c = (omega arith, refl, refl)
 
 pub loop-k-preserved : goal.loop-k-preserved
-loop-k-preserved c = let v = c.loop-k in
+loop-k-preserved c =
+    let v = c.loop-k in
     let a = c.args in
     let put = c.put_word.ensures in (
       omega arith,
@@ -22,5 +20,6 @@ loop-k-preserved c = let v = c.loop-k in
     )
 
 pub returns : goal.returns
-returns c = let v = c.loop-k in
+returns c =
+    let v = c.loop-k in
     rw (take_all v.k c.args.row.now (omega arith)) at v.invariant.2

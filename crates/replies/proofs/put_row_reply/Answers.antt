@@ -1,7 +1,7 @@
 use mathlib.Core.Path.{◌≡◌}
 use Prim.Native.Nat.{suc, ◌+◌}
 use native.Mathlib.Omega.{arith}
-use lib.ListN.{length, length-set}
+use lib.ListN.{length-set}
 use lib.Seq.{length-sets}
 use Rattle.wire.proofs.Lengths.{length_key_bytes}
 use Rattle.wire.proofs.Sets.{sets_append}
@@ -23,7 +23,8 @@ put_row-requires c = (rw c.put_key.ensures (simp (length-sets, length-set) (omeg
 --     omega arith
 
 pub returns : goal.returns
-returns c = let at = c.args.at in
+returns c =
+    let at = c.args.at in
     let e1 : at + 1 ≡ suc at = omega arith in
     let e2 : suc at + 8 ≡ at + 9 = omega arith in
     rw (

@@ -7,7 +7,6 @@ use Rattle.runs.proofs.Scanned.{retain_scans}
 use Prim.Native.Nat.{ℕ}
 use mathlib.Core.List.{List}
 use mathlib.Core.Path.{◌≡◌, sym, ◌∙◌}
-use borrow.Author.Rules.{rules}
 use Rattle.retain.proofs.retain.Goals as goal
 
 -- past the check the way over the live slots is the rule

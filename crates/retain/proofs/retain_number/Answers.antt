@@ -1,5 +1,4 @@
 use Rattle.rules.specs.Retain.{retain_number}
-use borrow.Author.Rules.{rules}
 use Rattle.retain.proofs.retain_number.Goals as goal
 
 pub returns : goal.returns

@@ -1,6 +1,5 @@
 use Rattle.rules.specs.Check.{check_rule}
 use Rattle.rules.proofs.Outcomes.{answered_by}
-use borrow.Author.Rules.{rules}
 use Rattle.sound.proofs.sound.Goals as goal
 
 pub returns : goal.returns

@@ -1,7 +1,6 @@
 use Rattle.rules.specs.Check.{sound_number}
 use Rattle.rules.proofs.Refusals.{number_stays}
 use mathlib.Core.Path.{sym}
-use borrow.Author.Rules.{rules}
 use Rattle.sound.proofs.sound_number.Goals as goal
 
 pub returns-then-n-ne-PASSES : goal.returns-then-n-ne-PASSES

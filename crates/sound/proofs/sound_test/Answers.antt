@@ -1,10 +1,10 @@
 use Rattle.rules.specs.Check.{sound_test}
-use borrow.Author.Rules.{rules}
 use Rattle.sound.proofs.sound_test.Goals as goal
 
 pub returns : goal.returns
 unfolding sound_test
-returns c = rw (
+returns c =
+    rw (
       c.both-2.ensures,
       c.both.ensures,
       c.both-linked.ensures,

@@ -3,7 +3,6 @@ use Rattle.rules.proofs.Outcomes.{refused_by, done_by}
 use Rattle.rules.proofs.Shape.{Shaped, entered}
 use mathlib.Core.Path.{refl, sym, ◌∙◌}
 use native.Mathlib.Omega.{arith}
-use borrow.Author.Rules.{rules}
 use Rattle.start.proofs.room.Goals as goal
 use Rattle.start.proofs.room.Goals.{Else-number-ne-PASSES}
 

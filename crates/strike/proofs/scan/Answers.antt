@@ -1,9 +1,9 @@
-use Rattle.rules.specs.Values.{Outcome, plain, counted}
+use Rattle.rules.specs.Values.{Outcome}
 use Rattle.rules.specs.Retain.{struck_by}
 use Rattle.rules.specs.declared.Header.{Header}
 use Rattle.rules.proofs.Choice.{by_pick}
 use Rattle.runs.specs.Scans.{Scan, strike_out, scan_one, scan_start, scans}
-use Rattle.std.proofs.Common.{◌≡◌, ℕ, zero, suc, ◌+◌, ◌-◌, ◌≤◌, Bool, List, length, refl, ap, add-one, arith, rules}
+use Rattle.std.proofs.Common.{◌≡◌, ℕ, zero, suc, ◌+◌, ◌≤◌, Bool, List, refl, ap, add-one, arith, rules}
 use Rattle.strike.proofs.scan.Goals as goal
 
 -- `strike::scan` meets its contract. The loop's invariant: what has been done so far is what the steps so far do. Assumes nothing.
@@ -26,13 +26,15 @@ unfolding scans
 loop-seen-init c = (omega arith, refl, refl, rw (c.wrapping_add_u32-cur.ensures.value, c.other_end.ensures))
 
 pub strike_out-struck-requires : goal.strike_out-struck-requires
-strike_out-struck-requires c = let v = c.loop-seen in
+strike_out-struck-requires c =
+    let v = c.loop-seen in
     let a = c.args in
     omega (arith, few (struck_by a.bytes.now) a.links.now a.rows.now a.header v.seen, ap (λ (s : Scan). s.outcome.answer.count) v.invariant.3)
 
 pub loop-seen-preserved : goal.loop-seen-preserved
 unfolding scan_one
-loop-seen-preserved c = let v = c.loop-seen in (
+loop-seen-preserved c =
+    let v = c.loop-seen in (
       omega arith,
       search rules,
       search rules,
@@ -40,6 +42,7 @@ loop-seen-preserved c = let v = c.loop-seen in (
     )
 
 pub returns : goal.returns
-returns c = let v = c.loop-seen in
+returns c =
+    let v = c.loop-seen in
     let all : v.seen ≡ c.args.header.live = omega arith in
     rw all at (ap (λ (s : Scan). s.outcome) v.invariant.3)

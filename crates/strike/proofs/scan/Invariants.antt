@@ -1,9 +1,7 @@
-use Rattle.rules.specs.Values.{Outcome, plain, counted}
+use Rattle.rules.specs.Values.{plain, counted}
 use Rattle.rules.specs.Retain.{struck_by}
-use Rattle.rules.specs.declared.Header.{Header}
-use Rattle.rules.proofs.Choice.{by_pick}
-use Rattle.runs.specs.Scans.{Scan, strike_out, scan_one, scan_start, scans}
-use Rattle.std.proofs.Common.{◌≡◌, ℕ, zero, suc, ◌+◌, ◌-◌, ◌≤◌, Bool, List, length, refl, ap, add-one, arith, rules}
+use Rattle.runs.specs.Scans.{scan_start, scans}
+use Rattle.std.proofs.Common.{◌≡◌, ◌-◌, ◌≤◌, length}
 use Rattle.strike.proofs.scan.Given as goal
 
 abbrev pub invariant-loop-seen : goal.invariant-loop-seen

@@ -1,5 +1,5 @@
 use Rattle.runs.specs.Scans.{strike_out}
-use Rattle.std.proofs.Common.{rules, eq-eqb, ne_eqb}
+use Rattle.std.proofs.Common.{eq-eqb, ne_eqb}
 use Rattle.strike.proofs.strike_out.Goals as goal
 
 pub returns-then-byte_at-ne0 : goal.returns-then-byte_at-ne0
@@ -8,7 +8,8 @@ returns-then-byte_at-ne0 c = simp (ne_eqb _ _ c.if-byte_at-ne0.true, ← c.byte_
 
 pub returns : goal.returns
 unfolding strike_out
-returns c = simp (
+returns c =
+    simp (
       eq-eqb _ _ c.if-byte_at-ne0.false,
       ← c.byte_at.ensures,
       ← c.remove_at-gone.ensures,

@@ -1,7 +1,6 @@
 use Rattle.rules.proofs.Access.{look_within, part_lies}
 use mathlib.Core.Path.{refl}
 use native.Mathlib.Omega.{arith}
-use borrow.Author.Rules.{rules}
 use Rattle.access.proofs.reading.look.Goals as goal
 
 pub offset_bounds-rows-start : goal.offset_bounds-rows-start

@@ -8,7 +8,6 @@ use Prim.Native.Nat.{◌+◌, ◌*◌, ◌≤◌}
 use lib.ListN.{length}
 use Rattle.rules.specs.Words.{row_words}
 use native.Mathlib.Omega.{arith}
-use borrow.Author.Rules.{rules}
 use Rattle.access.proofs.replacing.replace.Goals as goal
 use Rattle.access.proofs.replacing.replace.Goals.{Else-number-ne-PASSES}
 
@@ -25,5 +24,6 @@ slice_bounds-set_row-end c = omega (arith, (fits c).0)
 
 pub returns : goal.returns
 unfolding replace_rule
-returns c = done_by _ _ _ _ _ c.replace_number-number.ensures _ c.if-number-ne-PASSES.false _
+returns c =
+    done_by _ _ _ _ _ c.replace_number-number.ensures _ c.if-number-ne-PASSES.false _
     (rw c.set_row.ensures (ap (plain done _ _) (lent_on _ _ _ (fits (goal.at.returns c).Else-number-ne-PASSES).1 (fits (goal.at.returns c).Else-number-ne-PASSES).0)))

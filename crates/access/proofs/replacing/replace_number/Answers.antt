@@ -1,5 +1,4 @@
 use Rattle.rules.specs.Access.{replace_number}
-use borrow.Author.Rules.{rules}
 use Rattle.access.proofs.replacing.replace_number.Goals as goal
 
 pub returns : goal.returns

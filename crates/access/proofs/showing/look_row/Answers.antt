@@ -1,5 +1,4 @@
 use mathlib.Core.Path.{refl}
-use borrow.Author.Rules.{rules}
 use Rattle.rules.specs.Access.{look_row_rule}
 use Rattle.rules.proofs.Outcomes.{refused_by, done_by}
 use Rattle.access.proofs.showing.look_row.Goals as goal

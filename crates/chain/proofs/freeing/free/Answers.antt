@@ -1,5 +1,4 @@
 use Rattle.rules.specs.Remove.{freed}
-use borrow.Author.Rules.{rules}
 use Rattle.chain.proofs.freeing.free.Goals as goal
 
 pub returns-then-x-2 : goal.returns-then-x-2

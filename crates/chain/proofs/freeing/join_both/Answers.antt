@@ -1,5 +1,4 @@
 use Rattle.rules.specs.Remove.{join_both}
-use borrow.Author.Rules.{rules}
 use Rattle.chain.proofs.freeing.join_both.Goals as goal
 
 pub returns : goal.returns

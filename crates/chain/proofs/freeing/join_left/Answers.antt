@@ -1,5 +1,4 @@
 use Rattle.rules.specs.Remove.{join_left}
-use borrow.Author.Rules.{rules}
 use Rattle.chain.proofs.freeing.join_left.Goals as goal
 
 pub returns : goal.returns

@@ -1,5 +1,4 @@
 use Rattle.rules.specs.Remove.{set_apart}
-use borrow.Author.Rules.{rules}
 use Rattle.chain.proofs.freeing.set_apart.Goals as goal
 
 pub returns : goal.returns

@@ -1,6 +1,5 @@
 use Rattle.rules.specs.Insert.{shortened}
 use borrow.Author.Tests.{eq-eqb, ne_eqb}
-use borrow.Author.Rules.{rules}
 use Rattle.chain.proofs.shortening.shorten.Goals as goal
 
 pub returns-then-x : goal.returns-then-x

@@ -1,5 +1,4 @@
 use Rattle.rules.specs.Insert.{take_back}
-use borrow.Author.Rules.{rules}
 use Rattle.chain.proofs.shortening.take_back.Goals as goal
 
 pub returns : goal.returns

@@ -1,5 +1,4 @@
 use Rattle.rules.specs.Insert.{insert_number}
-use borrow.Author.Rules.{rules}
 use Rattle.followed.proofs.inserting.insert_number.Goals as goal
 
 pub returns : goal.returns

@@ -1,10 +1,10 @@
 use Rattle.rules.specs.Insert.{run_number}
-use borrow.Author.Rules.{rules}
 use Rattle.followed.proofs.inserting.run_number.Goals as goal
 
 pub returns : goal.returns
 unfolding run_number
-returns c = rw (
+returns c =
+    rw (
       c.or_if.ensures,
       c.both.ensures,
       c.or_if-n-4.ensures,

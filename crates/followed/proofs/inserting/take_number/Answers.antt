@@ -1,10 +1,10 @@
 use Rattle.rules.specs.Insert.{take_number}
-use borrow.Author.Rules.{rules}
 use Rattle.followed.proofs.inserting.take_number.Goals as goal
 
 pub returns : goal.returns
 unfolding take_number
-returns c = rw (
+returns c =
+    rw (
       c.or_if.ensures,
       c.both-2.ensures,
       c.or_astray-n-2.ensures,

@@ -1,10 +1,10 @@
 use Rattle.rules.specs.Remove.{apart_number}
-use borrow.Author.Rules.{rules}
 use Rattle.followed.proofs.removing.apart_number.Goals as goal
 
 pub returns : goal.returns
 unfolding apart_number
-returns c = rw (
+returns c =
+    rw (
       c.or_astray.ensures,
       c.both.ensures,
       c.or_if-n.ensures,

@@ -1,10 +1,10 @@
 use Rattle.rules.specs.Remove.{left_number}
-use borrow.Author.Rules.{rules}
 use Rattle.followed.proofs.removing.left_number.Goals as goal
 
 pub returns : goal.returns
 unfolding left_number
-returns c = rw (
+returns c =
+    rw (
       c.or_if.ensures,
       c.both.ensures,
       c.or_astray-n.ensures,

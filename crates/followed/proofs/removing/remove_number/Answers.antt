@@ -1,5 +1,4 @@
 use Rattle.rules.specs.Remove.{remove_number}
-use borrow.Author.Rules.{rules}
 use Rattle.followed.proofs.removing.remove_number.Goals as goal
 
 pub returns : goal.returns

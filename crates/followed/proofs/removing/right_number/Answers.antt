@@ -1,5 +1,4 @@
 use Rattle.rules.specs.Remove.{right_number}
-use borrow.Author.Rules.{rules}
 use Rattle.followed.proofs.removing.right_number.Goals as goal
 
 pub returns : goal.returns

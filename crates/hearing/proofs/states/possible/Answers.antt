@@ -1,6 +1,5 @@
 use Rattle.hearing.specs.Heard.{possible}
 use mathlib.Core.Path.{refl}
-use borrow.Author.Rules.{rules}
 use Rattle.hearing.proofs.states.possible.Goals as goal
 
 pub returns-in-Between : goal.returns-in-Between

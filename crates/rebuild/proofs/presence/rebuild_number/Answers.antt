@@ -3,13 +3,13 @@ use Rattle.rules.proofs.Refusals.{number_stays}
 use Rattle.rules.proofs.Rebuild.{Sized, sized}
 use mathlib.Core.Path.{◌≡◌}
 use native.Mathlib.Omega.{arith}
-use borrow.Author.Rules.{rules}
 use Rattle.rebuild.proofs.presence.rebuild_number.Goals as goal
 use Rattle.rebuild.proofs.presence.rebuild_number.Goals.{Else-number-ne-PASSES}
 
 pub returns-then-number-ne-PASSES : goal.returns-then-number-ne-PASSES
 unfolding rebuild_number
-returns-then-number-ne-PASSES c = let given : c.or_if-number-2.result ≡ 0 → ⊥ = c.if-number-ne-PASSES.true in
+returns-then-number-ne-PASSES c =
+    let given : c.or_if-number-2.result ≡ 0 → ⊥ = c.if-number-ne-PASSES.true in
     rw (
       ← c.lent_number-number.ensures,
       ← c.or_if-number.ensures,
@@ -31,7 +31,8 @@ overflow_cast-n c = omega (arith, (few (goal.at.overflow_cast-n c).Else-number-n
 
 pub returns : goal.returns
 unfolding rebuild_number
-returns c = rw (
+returns c =
+    rw (
       c.or_if.ensures,
       c.version.ensures,
       c.or_if-number-3.ensures,

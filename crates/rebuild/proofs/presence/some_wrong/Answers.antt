@@ -1,11 +1,8 @@
 use Rattle.rules.specs.Choice.{some_below}
 use Rattle.rules.specs.Rebuild.{wrong_byte}
 use Rattle.rules.proofs.Below.{some_next, some_found}
-use mathlib.Core.Bool.{false}
 use mathlib.Core.Path.{◌≡◌, refl, sym, ◌∙◌}
-use Prim.Native.Nat.{◌-◌, ◌≤◌}
 use native.Mathlib.Omega.{arith}
-use borrow.Author.Rules.{rules}
 use Rattle.rebuild.proofs.presence.some_wrong.Goals as goal
 use Rattle.rebuild.proofs.presence.some_wrong.Goals.{After-wrong_bit}
 
@@ -27,5 +24,6 @@ pub loop-i-preserved : goal.loop-i-preserved
 loop-i-preserved c = (omega arith, rw (some_next, c.loop-i.invariant.1) (sym (judged (goal.at.loop-i-preserved c).After-wrong_bit) ∙ c.if-wrong_bit.false))
 
 pub returns : goal.returns
-returns c = let whole : c.loop-i.i ≡ c.args.n = omega arith in
+returns c =
+    let whole : c.loop-i.i ≡ c.args.n = omega arith in
     sym (rw whole at c.loop-i.invariant.1)

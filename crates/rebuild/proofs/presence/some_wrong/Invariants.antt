@@ -1,11 +1,8 @@
 use Rattle.rules.specs.Choice.{some_below}
 use Rattle.rules.specs.Rebuild.{wrong_byte}
-use Rattle.rules.proofs.Below.{some_next, some_found}
 use mathlib.Core.Bool.{false}
-use mathlib.Core.Path.{◌≡◌, refl, sym, ◌∙◌}
+use mathlib.Core.Path.{◌≡◌}
 use Prim.Native.Nat.{◌-◌, ◌≤◌}
-use native.Mathlib.Omega.{arith}
-use borrow.Author.Rules.{rules}
 use Rattle.rebuild.proofs.presence.some_wrong.Given as goal
 
 abbrev pub invariant-loop-i : goal.invariant-loop-i

@@ -1,10 +1,7 @@
 use Rattle.rules.specs.Rebuild.{cleared_rows}
-use mathlib.Core.Path.{◌≡◌, refl}
+use mathlib.Core.Path.{◌≡◌}
 use Prim.Native.Nat.{◌-◌, ◌≤◌}
-use native.Mathlib.Numerals.{add-one}
-use native.Mathlib.Omega.{arith}
 use lib.ListN.{length}
-use borrow.Author.Rules.{rules}
 use Rattle.relink.proofs.clearing.clear_vacant_rows.Given as goal
 
 abbrev pub invariant-loop-i : goal.invariant-loop-i

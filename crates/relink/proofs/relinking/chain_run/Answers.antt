@@ -1,10 +1,10 @@
 use Rattle.rules.specs.Rebuild.{chain_run}
-use borrow.Author.Rules.{rules}
 use Rattle.relink.proofs.relinking.chain_run.Goals as goal
 
 pub returns : goal.returns
 unfolding chain_run
-returns c = rw (
+returns c =
+    rw (
       c.set_other_end-2.ensures,
       c.set_prev.ensures,
       c.set_next-2.ensures,

@@ -3,8 +3,6 @@ use Rattle.rules.specs.Words.{version_at}
 use Rattle.rules.specs.Runs.{is_front}
 use Rattle.rules.specs.Rebuild.{chain_slot}
 use mathlib.Core.Path.{◌≡◌, sym, ◌∙◌}
-use borrow.Author.Tests.{not-true, not-false}
-use borrow.Author.Rules.{rules}
 use Rattle.relink.proofs.relinking.chain_slot.Goals as goal
 use Rattle.relink.proofs.relinking.chain_slot.Goals.{Joined-is_front, then-is_front, else-is_front}
 
@@ -14,8 +12,8 @@ minded : (c : Joined-is_front) →
     c.if-is_front.front ≡ pick (is_front (version_at a.links.now a.n) a.n a.i) a.i a.at.front
 minded c =
     elim c.if-is_front.branch [
-      then-is_front w ↦ w.front-is ∙ simp (sym c.is_front.ensures ∙ w.if-is_front.true)
-    | else-is_front w ↦ w.front-is ∙ simp (sym c.is_front.ensures ∙ w.if-is_front.false)
+      | then-is_front w ↦ w.front-is ∙ simp (sym c.is_front.ensures ∙ w.if-is_front.true)
+      | else-is_front w ↦ w.front-is ∙ simp (sym c.is_front.ensures ∙ w.if-is_front.false)
     ]
 
 pub returns-then-not-is_back : goal.returns-then-not-is_back

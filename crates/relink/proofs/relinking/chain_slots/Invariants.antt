@@ -1,10 +1,7 @@
-use Rattle.rules.specs.Rebuild.{chain_slots, closed}
-use mathlib.Core.Path.{◌≡◌, refl, ap, ◌∙◌}
+use Rattle.rules.specs.Rebuild.{chain_slots}
+use mathlib.Core.Path.{◌≡◌}
 use Prim.Native.Nat.{◌-◌, ◌≤◌}
-use native.Mathlib.Numerals.{add-one}
-use native.Mathlib.Omega.{arith}
 use lib.ListN.{length}
-use borrow.Author.Rules.{rules}
 use Rattle.relink.proofs.relinking.chain_slots.Given as goal
 
 abbrev pub invariant-loop-i : goal.invariant-loop-i

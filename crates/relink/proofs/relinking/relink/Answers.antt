@@ -1,10 +1,10 @@
 use Rattle.rules.specs.Rebuild.{relinked}
-use borrow.Author.Rules.{rules}
 use Rattle.relink.proofs.relinking.relink.Goals as goal
 
 pub returns : goal.returns
 unfolding relinked
-returns c = rw (
+returns c =
+    rw (
       c.rebuilt.ensures,
       c.chain_slots.ensures,
       c.unlink.ensures,

@@ -1,7 +1,7 @@
 use Rattle.rules.specs.Words.{row_at, zero_row}
 use native.Mathlib.Nat.{add-sub_cancel_left}
 use Rattle.rules.proofs.Rows.{set_whole_row}
-use Rattle.std.proofs.Common.{refl, ◌∙◌, arith, length-drop, length-take, rules, le-ltb, lt-ltb, le-leb}
+use Rattle.std.proofs.Common.{refl, ◌∙◌, arith, length-drop, length-take, le-ltb, lt-ltb, le-leb}
 use borrow.Author.Tests.{lt-leb}
 use Rattle.slots.proofs.rows.row.Goals as goal
 
@@ -15,7 +15,8 @@ returns-then-rows-end c = simp (lt-ltb _ _ c.if-used-i.false, lt-leb _ _ c.if-ro
 
 pub returns : goal.returns
 unfolding row_at
-returns c = simp (
+returns c =
+    simp (
       lt-ltb _ _ c.if-used-i.false,
       le-leb _ _ c.if-rows-end.false,
     )

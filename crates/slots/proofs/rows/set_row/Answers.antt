@@ -1,6 +1,6 @@
 use Rattle.rules.specs.Words.{row_words, set_row}
-use lib.Seq.{paste, paste-zero, paste-suc}
-use Rattle.std.proofs.Common.{◌≡◌, ◌-◌, ◌*◌, ◌≤◌, length, refl, add-one, arith, length-set, rules, eq-eqb, ne_eqb, le-leb}
+use lib.Seq.{paste-zero, paste-suc}
+use Rattle.std.proofs.Common.{◌≡◌, ◌*◌, refl, add-one, arith, length-set, eq-eqb, ne_eqb, le-leb}
 use borrow.Author.Tests.{lt-leb}
 use Rattle.slots.proofs.rows.set_row.Goals as goal
 
@@ -16,7 +16,8 @@ pub loop-k-init : goal.loop-k-init
 loop-k-init c = (omega arith, refl, paste-zero c.args.rows.now (c.args.i * row_words) c.args.side.now)
 
 pub loop-k-preserved : goal.loop-k-preserved
-loop-k-preserved c = let v = c.loop-k in
+loop-k-preserved c =
+    let v = c.loop-k in
     let a = c.args in (
       omega arith,
       simp length-set v.invariant.1,
@@ -25,5 +26,6 @@ loop-k-preserved c = let v = c.loop-k in
 
 pub returns : goal.returns
 unfolding set_row
-returns c = let k8 : c.loop-k.k ≡ row_words = omega arith in
+returns c =
+    let k8 : c.loop-k.k ≡ row_words = omega arith in
     simp (eq-eqb _ _ c.if-side-ne-ROW_WORDS.false, le-leb _ _ c.if-rows-at.false) (rw k8 at c.loop-k.invariant.2)

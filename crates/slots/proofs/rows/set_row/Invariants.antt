@@ -1,7 +1,6 @@
-use Rattle.rules.specs.Words.{row_words, set_row}
-use lib.Seq.{paste, paste-zero, paste-suc}
-use Rattle.std.proofs.Common.{◌≡◌, ◌-◌, ◌*◌, ◌≤◌, length, refl, add-one, arith, length-set, rules, eq-eqb, ne_eqb, le-leb}
-use borrow.Author.Tests.{lt-leb}
+use Rattle.rules.specs.Words.{row_words}
+use lib.Seq.{paste}
+use Rattle.std.proofs.Common.{◌≡◌, ◌-◌, ◌*◌, ◌≤◌, length}
 use Rattle.slots.proofs.rows.set_row.Given as goal
 
 abbrev pub invariant-loop-k : goal.invariant-loop-k

@@ -1,10 +1,10 @@
 use Rattle.rules.specs.Words.{new_slot}
-use Rattle.std.proofs.Common.{rules}
 use Rattle.slots.proofs.words.new_slot.Goals as goal
 
 pub returns : goal.returns
 unfolding new_slot
-returns c = rw (
+returns c =
+    rw (
       c.zero_links.ensures,
       c.set_version.ensures,
     )

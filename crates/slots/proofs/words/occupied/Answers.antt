@@ -1,5 +1,4 @@
 use Rattle.rules.specs.Words.{occupied_at}
-use Rattle.std.proofs.Common.{rules}
 use Rattle.slots.proofs.words.occupied.Goals as goal
 
 pub returns : goal.returns

@@ -1,5 +1,4 @@
 use Rattle.rules.specs.Words.{vacant_at}
-use Rattle.std.proofs.Common.{rules}
 use Rattle.slots.proofs.words.vacant.Goals as goal
 
 pub returns : goal.returns

@@ -2,11 +2,10 @@ use Rattle.rules.specs.Choice.{pick, both}
 use Rattle.rules.specs.Check.{circle_test}
 use Rattle.rules.proofs.Check.{circle_on}
 use Prim.Native.Nat.{◌-◌}
-use mathlib.Core.Path.{◌≡◌, refl, ◌∙◌}
+use mathlib.Core.Path.{◌≡◌, ◌∙◌}
 use native.Mathlib.Omega.{arith}
 use lib.Dec.{eqb}
-use borrow.Author.Rules.{rules}
-use borrow.Author.Tests.{eq-eqb, ne_eqb, not-true, not-false}
+use borrow.Author.Tests.{eq-eqb, ne_eqb}
 use Rattle.sound.proofs.circle.circle_closes.Goals as goal
 use Rattle.sound.proofs.circle.circle_closes.Goals.{After-may_follow}
 
@@ -30,5 +29,6 @@ loop-left-preserved c = rw (step (goal.at.loop-left-preserved c).After-may_follo
 
 pub returns : goal.returns
 unfolding circle_test
-returns c = let none : c.loop-left.left ≡ 0 = omega arith in
+returns c =
+    let none : c.loop-left.left ≡ 0 = omega arith in
     rw (c.loop-left.invariant, none)

@@ -1,12 +1,5 @@
-use Rattle.rules.specs.Choice.{pick, both}
 use Rattle.rules.specs.Check.{circle_test}
-use Rattle.rules.proofs.Check.{circle_on}
-use Prim.Native.Nat.{◌-◌}
-use mathlib.Core.Path.{◌≡◌, refl, ◌∙◌}
-use native.Mathlib.Omega.{arith}
-use lib.Dec.{eqb}
-use borrow.Author.Rules.{rules}
-use borrow.Author.Tests.{eq-eqb, ne_eqb, not-true, not-false}
+use mathlib.Core.Path.{◌≡◌}
 use Rattle.sound.proofs.circle.circle_closes.Given as goal
 
 -- `sound::circle::circle_closes` meets its contract. The loop's invariant: the test is that of the steps left, from the slot at hand. Assumes nothing.

@@ -4,12 +4,8 @@ use Rattle.rules.specs.Runs.{front_of}
 use Rattle.rules.specs.Check.{meet_at, ends_test}
 use Rattle.rules.proofs.Below.{all_next, all_missed}
 use Rattle.rules.proofs.Check.{front_on}
-use Prim.Native.Nat.{ℕ, ◌-◌, ◌≤◌}
-use mathlib.Core.Bool.{true}
 use mathlib.Core.Path.{◌≡◌, refl, sym, ◌∙◌}
 use native.Mathlib.Omega.{arith}
-use borrow.Author.Rules.{rules}
-use borrow.Author.Tests.{not-true, not-false}
 use Rattle.sound.proofs.ends.ends_meet.Goals as goal
 use Rattle.sound.proofs.ends.ends_meet.Goals.{After-meet_at}
 
@@ -27,17 +23,19 @@ judged c = rw (← c.loop-i.invariant.1) c.meet_at.ensures
 
 pub returns-then-not-meet_at : goal.returns-then-not-meet_at
 unfolding ends_test
-returns-then-not-meet_at c = sym (all_missed _ _ c.loop-i.i c.loop-i-test.true
+returns-then-not-meet_at c =
+    sym (all_missed _ _ c.loop-i.i c.loop-i-test.true
     (sym (judged (goal.at.returns-then-not-meet_at c).After-meet_at) ∙ c.if-not-meet_at.true))
 
 pub loop-i-preserved : goal.loop-i-preserved
 loop-i-preserved c = (
-      omega arith,
-      front_on _ _ _ _ c.loop-i.invariant.1 _ c.front_after-front.ensures,
-      rw (all_next, c.loop-i.invariant.2) (sym (judged (goal.at.loop-i-preserved c).After-meet_at) ∙ c.if-not-meet_at.false),
-    )
+  omega arith,
+  front_on _ _ _ _ c.loop-i.invariant.1 _ c.front_after-front.ensures,
+  rw (all_next, c.loop-i.invariant.2) (sym (judged (goal.at.loop-i-preserved c).After-meet_at) ∙ c.if-not-meet_at.false),
+)
 
 pub returns : goal.returns
 unfolding ends_test
-returns c = let all : c.loop-i.i ≡ c.args.used = omega arith in
+returns c =
+    let all : c.loop-i.i ≡ c.args.used = omega arith in
     sym (rw all at c.loop-i.invariant.2)

@@ -1,15 +1,10 @@
 use Rattle.rules.specs.Choice.{all_below}
 use Rattle.rules.specs.Words.{version_at}
 use Rattle.rules.specs.Runs.{front_of}
-use Rattle.rules.specs.Check.{meet_at, ends_test}
-use Rattle.rules.proofs.Below.{all_next, all_missed}
-use Rattle.rules.proofs.Check.{front_on}
+use Rattle.rules.specs.Check.{meet_at}
 use Prim.Native.Nat.{ℕ, ◌-◌, ◌≤◌}
 use mathlib.Core.Bool.{true}
-use mathlib.Core.Path.{◌≡◌, refl, sym, ◌∙◌}
-use native.Mathlib.Omega.{arith}
-use borrow.Author.Rules.{rules}
-use borrow.Author.Tests.{not-true, not-false}
+use mathlib.Core.Path.{◌≡◌}
 use Rattle.sound.proofs.ends.ends_meet.Given as goal
 
 -- `sound::ends::ends_meet` meets its contract. The loop's invariant: the front at hand is that of slot i, and the ends of the runs passed meet. Assumes nothing.

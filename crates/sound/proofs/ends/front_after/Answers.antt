@@ -1,6 +1,5 @@
 use Rattle.rules.specs.Words.{vacant_at}
 use mathlib.Core.Path.{sym, ◌∙◌}
-use borrow.Author.Rules.{rules}
 use Rattle.sound.proofs.ends.front_after.Goals as goal
 
 pub returns-then-vacant : goal.returns-then-vacant

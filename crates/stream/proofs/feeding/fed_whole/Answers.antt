@@ -3,7 +3,6 @@ use Prim.Native.Nat.{◌<◌}
 use mathlib.Core.Path.{ap, subst}
 use Rattle.stream.specs.Feeding.{waits}
 use Rattle.rules.proofs.Choice.{both_true}
-use borrow.Author.Rules.{rules}
 use mathlib.Core.Bool.{true}
 use Rattle.stream.proofs.Turns.{left_of, turn_less}
 use Rattle.stream.proofs.Repeats.{stopped, onward}
@@ -12,7 +11,6 @@ use Rattle.stream.specs.Repeats.{while}
 use native.Mathlib.Omega.{arith}
 use mathlib.Core.Path.{◌≡◌, refl, sym, ◌∙◌}
 use lib.ListN.{length}
-use Prim.Native.Nat.{◌+◌}
 use Rattle.stream.proofs.feeding.fed_whole.Goals as goal
 
 pub loop-links-init : goal.loop-links-init
@@ -20,12 +18,14 @@ unfolding fed_whole
 loop-links-init c = (refl, refl, refl, refl)
 
 pub fed_once-f-requires : goal.fed_once-f-requires
-fed_once-f-requires c = let v = c.loop-links in
+fed_once-f-requires c =
+    let v = c.loop-links in
     (both_true (fits (length v.out) v.f.written) _ (sym c.going.ensures ∙ c.loop-links-test.true)).1
 
 pub loop-links-smaller : goal.loop-links-smaller
 unfolding going waits
-loop-links-smaller c = let y = c.fed_once-f in
+loop-links-smaller c =
+    let y = c.fed_once-f in
     let v = c.loop-links in
     let input = c.args.input.now in
     let before : Feeding = feeding v.f v.links v.rows v.out in
@@ -35,7 +35,8 @@ loop-links-smaller c = let y = c.fed_once-f in
 
 pub loop-links-preserved : goal.loop-links-preserved
 unfolding going waits
-loop-links-preserved c = let y = c.fed_once-f in
+loop-links-preserved c =
+    let y = c.fed_once-f in
     let v = c.loop-links in
     let input = c.args.input.now in
     let before : Feeding = feeding v.f v.links v.rows v.out in
@@ -51,5 +52,6 @@ loop-links-preserved c = let y = c.fed_once-f in
 
 pub returns : goal.returns
 unfolding going waits
-returns c = let v = c.loop-links in
+returns c =
+    let v = c.loop-links in
     sym (stopped (going _) (fed_once _) _ (feeding v.f v.links v.rows v.out) (sym c.going.ensures ∙ c.loop-links-test.false)) ∙ v.invariant.3

@@ -1,16 +1,7 @@
-use Rattle.wire.specs.Replies.{fits}
-use Prim.Native.Nat.{◌<◌}
-use mathlib.Core.Path.{ap, subst}
-use Rattle.stream.specs.Feeding.{waits}
-use Rattle.rules.proofs.Choice.{both_true}
-use borrow.Author.Rules.{rules}
-use mathlib.Core.Bool.{true}
-use Rattle.stream.proofs.Turns.{left_of, turn_less}
-use Rattle.stream.proofs.Repeats.{stopped, onward}
-use Rattle.stream.specs.Feeding.{Feeding, feeding, going, fed_once, fed_whole}
+use Rattle.stream.proofs.Turns.{left_of}
+use Rattle.stream.specs.Feeding.{feeding, going, fed_once, fed_whole}
 use Rattle.stream.specs.Repeats.{while}
-use native.Mathlib.Omega.{arith}
-use mathlib.Core.Path.{◌≡◌, refl, sym, ◌∙◌}
+use mathlib.Core.Path.{◌≡◌}
 use lib.ListN.{length}
 use Prim.Native.Nat.{◌+◌}
 use Rattle.stream.proofs.feeding.fed_whole.Given as goal

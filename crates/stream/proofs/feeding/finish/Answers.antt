@@ -4,17 +4,18 @@ use Rattle.stream.specs.Feeding.{waits, piece, finish_rule}
 use Rattle.commands.proofs.Spoken.{turned_by}
 use Rattle.commands.specs.Turns.{Run, run_of}
 use mathlib.Core.Path.{ap}
-use borrow.Author.Rules.{rules}
 use Rattle.stream.proofs.feeding.finish.Goals as goal
 
 pub returns-then-number-ne0 : goal.returns-then-number-ne0
 unfolding finish_rule
-returns-then-number-ne0 c = let a = c.args in
+returns-then-number-ne0 c =
+    let a = c.args in
     rw c.refused.ensures (turned_down (run_of a.links.now a.rows.now a.s) a.out.now _ _ _ c.feed_number-number.ensures c.if-number-ne0.true)
 
 pub returns : goal.returns
 unfolding finish_rule waits
-returns c = let a = c.args in
+returns c =
+    let a = c.args in
     let s : Run = run_of a.links.now a.rows.now a.s in
     let ends = turned_by c.ended-t.ensures in
     taken_in s a.out.now _ _ _ c.feed_number-number.ensures c.if-number-ne0.false _

@@ -1,6 +1,5 @@
 use mathlib.Core.Path.{refl}
 use Rattle.stream.specs.Feeding.{feed_number}
-use borrow.Author.Rules.{rules}
 use Rattle.stream.proofs.number.feed_number.Goals as goal
 
 pub returns : goal.returns

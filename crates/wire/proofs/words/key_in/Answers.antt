@@ -1,4 +1,3 @@
-use borrow.Author.Rules.{rules}
 use Rattle.wire.specs.Words.{key_in}
 use Rattle.wire.proofs.words.key_in.Goals as goal
 
