@@ -1,8 +1,5 @@
 // A line of the list: its first word, as a number, and the numbers after it. docs/LIST.md says the language.
-ghost use Rattle.std.specs.Prelude.{◌≤◌, length};
-
-use bytes::scan::find;
-use check::same;
+ghost use Rattle.std.specs.Prelude.{◌≡◌, ℕ, ◌≤◌, ◌<◌, ◌≢◌, length, slice_index};
 
 // The first words of the language, as numbers: their places among the names in command_of. Settings come first, then what only reads, then what
 // changes rows alone.
@@ -49,6 +46,21 @@ pub(crate) const UNKNOWN: u32 = 20;
 // The most numbers that are read of a line.
 pub(crate) const NUMBERS: usize = 64;
 
+// The place of the first such byte of a text, from byte `from` on; the text's length where there is none.
+pub(crate) fn find(text: &[u8], from: usize, byte: u8) -> usize
+    requires { from ≤ length text.now }
+    ensures after { from ≤ result }
+    ensures within { result ≤ length text.now }
+    ensures before { (k : ℕ) → from ≤ k → k < result → slice_index text.now k ≢ byte }
+    ensures found { result < length text.now → slice_index text.now result ≡ byte }
+{
+    let mut at = from;
+    while at < text.len() && text[at] != byte {
+        at += 1;
+    }
+    at
+}
+
 // What is no digit, or too large a number, gives some number all the same.
 fn number_in(digits: &[u8]) -> u32 {
     let mut number: u64 = 0;
@@ -66,10 +78,10 @@ pub(crate) fn read_numbers(line: &[u8], numbers: &mut [u32]) -> usize
     ensures { result ≤ length numbers.old }
 {
     let mut count = 0;
-    let mut space = find(line, 0, line.len(), b' ');
+    let mut space = find(line, 0, b' ');
     while space < line.len() && count < numbers.len() {
         let start = space + 1;
-        space = find(line, start, line.len(), b' ');
+        space = find(line, start, b' ');
         numbers[count] = number_in(&line[start..space]);
         count += 1;
     }
@@ -83,13 +95,13 @@ pub(crate) fn nth<'a>(text: &'a [u8], k: u32) -> &'a [u8]
     let mut start = 0;
     let mut i = 0;
     while i < k && start < text.len() {
-        start = find(text, start, text.len(), b' ') + 1;
+        start = find(text, start, b' ') + 1;
         i += 1;
     }
     if text.len() <= start {
         return &text[0..0];
     }
-    let end = find(text, start, text.len(), b' ');
+    let end = find(text, start, b' ');
     &text[start..end]
 }
 
@@ -103,16 +115,14 @@ pub(crate) fn command_of(line: &[u8]) -> u32
     if line[0] == b'#' {
         return 0;
     }
-    let end = find(line, 0, line.len(), b' ');
+    let end = find(line, 0, b' ');
     let mut k = 0;
     while k < UNKNOWN {
-        if same(
-            &line[0..end],
-            nth(
-                b"# lend header links row show room key_number look hop_step sound look_mut replace start insert remove drain_step clear retain rebuild",
-                k,
-            ),
-        ) {
+        let name = nth(
+            b"# lend header links row show room key_number look hop_step sound look_mut replace start insert remove drain_step clear retain rebuild",
+            k,
+        );
+        if &line[0..end] == name {
             return k;
         }
         k += 1;

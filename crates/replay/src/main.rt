@@ -10,13 +10,12 @@ mod words;
 
 ghost use Rattle.std.specs.Prelude.{◌≤◌, length};
 
-use bytes::scan::find;
 use calling::called;
 use flat::Answer;
 use hop::Header;
-use language::{NUMBERS, SHOW, command_of, read_numbers};
-use libc::{STDERR_FILENO, STDIN_FILENO, STDOUT_FILENO};
+use language::{NUMBERS, SHOW, command_of, find, read_numbers};
 use settings::{State, after, set};
+use std::io::Read;
 use telling::tell;
 use words::least;
 
@@ -53,6 +52,7 @@ fn answered(
 
 // The line with its answer; answers whether it was written. What fails is said here.
 fn write_line<'a>(
+    rt: &(impl Print + Eprint),
     out: &mut [u8],
     line: &[u8],
     links: &'a [u32],
@@ -61,18 +61,16 @@ fn write_line<'a>(
     x: Answer,
 ) -> bool {
     let end = tell(out, line, links, rows, command, x);
-    let well = io::write_all(STDOUT_FILENO, &out[0..end]);
+    let well = rt.write_all(&out[0..end]).is_ok();
     if !well {
-        io::write_all(
-            STDERR_FILENO,
-            b"replay: writing standard output failed; the answers are cut short\n",
-        );
+        let _ = rt.eprintln("replay: writing standard output failed; the answers are cut short");
     }
     well
 }
 
 // One line: copied, answered, written.
 fn replay_line(
+    rt: &(impl Print + Eprint),
     links: &mut [u32],
     rows: &mut [u32],
     out: &mut [u8],
@@ -83,12 +81,19 @@ fn replay_line(
     let mut numbers = [0u32; NUMBERS];
     let count = read_numbers(line, &mut numbers);
     let x = answered(links, rows, state, command, &numbers[0..count]);
-    let well = write_line(out, line, links, rows, command, x);
-    after(state, command, &numbers[0..count], x.header, well)
+    let header = x.header;
+    let well = write_line(rt, out, line, links, rows, command, x);
+    after(state, command, &numbers[0..count], header, well)
 }
 
 // Line by line. The last one may lack its newline.
-fn replay(links: &mut [u32], rows: &mut [u32], out: &mut [u8], list: &[u8]) {
+fn replay(
+    rt: &(impl Print + Eprint),
+    links: &mut [u32],
+    rows: &mut [u32],
+    out: &mut [u8],
+    list: &[u8],
+) {
     let mut state = State {
         links: 0,
         rows: 0,
@@ -97,50 +102,44 @@ fn replay(links: &mut [u32], rows: &mut [u32], out: &mut [u8], list: &[u8]) {
     };
     let mut at = 0;
     while at < list.len() && state.well {
-        let end = find(list, at, list.len(), b'\n');
-        state = replay_line(links, rows, out, &list[at..end], state);
+        let end = find(list, at, b'\n');
+        state = replay_line(rt, links, rows, out, &list[at..end], state);
         at = end + 1;
     }
 }
 
 // The whole list; answers how many bytes it has. A list that cannot be read whole counts as empty.
-fn read_list(list: &mut [u8]) -> usize
+fn read_list(input: &mut impl Read, rt: &impl Eprint, list: &mut [u8]) -> usize
     ensures { result ≤ length list.old }
 {
     let mut end = 0;
     while end < list.len() {
-        let got = libc::read(STDIN_FILENO, &mut list[end..]);
-        if got < 0 {
-            io::write_all(
-                STDERR_FILENO,
-                b"replay: reading standard input failed; nothing was replayed\n",
-            );
-            return 0;
+        match input.read(&mut list[end..]) {
+            Ok(0) => return end,
+            Ok(more) => end += more,
+            Err(_) => {
+                let _ = rt.eprintln("replay: reading standard input failed; nothing was replayed");
+                return 0;
+            }
         }
-        let more = io::count(got, &list[end..]);
-        if more == 0 {
-            return end;
-        }
-        end += more;
     }
-    io::write_all(
-        STDERR_FILENO,
-        b"replay: the list is longer than the program can hold; nothing was replayed\n",
+    let _ = rt.eprintln(
+        "replay: the list is longer than the program can hold; nothing was replayed",
     );
     0
 }
 
 // The list's room comes in from outside: its length is then known without a count of its zeros.
-fn run(room: [u8; LIST]) {
+fn run(rt: HostRuntime, room: [u8; LIST]) {
     let mut links = [0u32; LINKS];
     let mut rows = [0u32; ROWS];
     let mut out = [0u8; LINE];
     let mut list = room;
-    let n = read_list(&mut list);
-    replay(&mut links, &mut rows, &mut out, &list[0..n]);
+    let n = read_list(&mut rt.stdin(), &rt, &mut list);
+    replay(&rt, &mut links, &mut rows, &mut out, &list[0..n]);
 }
 
 // The room is so large that a program has it once only.
-fn main() {
-    run([0; LIST]);
+fn main(rt: HostRuntime) {
+    run(rt, [0; LIST]);
 }

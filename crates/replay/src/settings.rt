@@ -9,7 +9,7 @@ use hop::{Header, LINK_WORDS, ROW_WORDS};
 const NEVER_SET: u32 = 3735928559;
 
 // How many words of each table are lent, the header, and whether the lines so far were written well.
-#[derive(Drop)]
+#[derive(Clone, Copy)]
 pub(crate) struct State {
     pub(crate) links: usize,
     pub(crate) rows: usize,

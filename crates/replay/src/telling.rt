@@ -5,6 +5,7 @@ use crate::language::{HOP_STEP, INSERT, LOOK_MUT, RETAIN, ROOM, SHOW, UNKNOWN, n
 use crate::words::{part, word_at};
 use flat::Answer;
 use hop::{Header, LINK_WORDS, ROW_WORDS, Row};
+use std::fmt::InlineText;
 
 // Text. What does not fit is dropped.
 fn put(out: &mut [u8], at: usize, text: &[u8]) -> usize
@@ -14,7 +15,9 @@ fn put(out: &mut [u8], at: usize, text: &[u8]) -> usize
     if out.len() - at < text.len() {
         return at;
     }
-    at + bytes::copy(text, &mut out[at..])
+    let end = at + text.len();
+    out[at..end].copy_from_slice(text);
+    end
 }
 
 // In decimal, with no sign and no zeros in front.
@@ -22,9 +25,8 @@ fn put_number(out: &mut [u8], at: usize, number: u32) -> usize
     requires { at ≤ length out.old }
     ensures { result ≤ length out.old }
 {
-    let mut digits = [0u8; 20];
-    let n = io::decimal(number as u64, &mut digits);
-    put(out, at, &digits[0..n])
+    let digits = InlineText::<20>::of(number);
+    put(out, at, digits.as_str().as_bytes())
 }
 
 // Each word after a space.
@@ -221,12 +223,12 @@ fn put_answer<'a>(
     if command == UNKNOWN {
         return put(out, start, b"not understood");
     }
+    let header = x.header;
     if command == SHOW {
-        let header = x.header;
         return put_table(out, start, links, rows, header.used);
     }
     let told = put_outcome(out, start, command, x);
-    put_header(out, told, x.header)
+    put_header(out, told, header)
 }
 
 // The line, its answer and a newline, from the buffer's first byte on.
