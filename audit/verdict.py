@@ -1,9 +1,11 @@
-"""What the log of a refused program says: the judgement of tests/reasons and of audit/code."""
+"""What is said of a refused program: the judgement of tests/reasons and of audit/code."""
 import re
 
 FACT, UNFIT, NOTHING = "by a fact", "does not fit", "no reason"
 # what shows only that the proof was written for other code
-MARKS = ("that can be named from here", "is not in scope", "has no field", "error[", "Parse", "broke off")
+MARKS = ("that can be named from here", "is not in scope", "has no field", "has no `", "error[", "Parse", "broke off")
+# what rt says of an edit that was refused, before the first line of the prover that shows it
+REFUSED = "refused, as it must be: "
 
 
 def reason(log):
@@ -11,8 +13,15 @@ def reason(log):
     longer fits the code, NOTHING where no fact is named. What follows from an earlier refusal is passed over."""
     errors = [e for e in re.findall(r": error(.*)$", log, re.M) if "was not admitted" not in e]
     for error in errors:
-        # the proof as a whole is refused by itself only where it lacks or has too much of what the code needs
-        if any(mark in "error" + error for mark in MARKS) or re.match(r": `\S+-spec`", error):
+        if any(mark in "error" + error for mark in MARKS):
             return UNFIT, error[:200]
-    facts = errors + re.findall(r"^fn .*no proof: .*does not close", log, re.M)
+    facts = errors + re.findall(r"^note: \S+: it is not proved that .*$", log, re.M) + re.findall(r"^fn .*no proof: .*did not prove", log, re.M)
     return (FACT, "") if facts else (NOTHING, "")
+
+
+def of_edit(said):
+    """The same of what the gate says of an edit: that it is refused, and the first line of the prover that shows it. Where every error only names
+    what the edit took away, or where the prover met a limit of its own, rt says so in place of that line."""
+    if said.startswith(REFUSED):
+        return reason(said.removeprefix(REFUSED))
+    return (UNFIT, said[:200]) if "a proof file names what the edit took away" in said else (NOTHING, said[:200])

@@ -1,8 +1,8 @@
 /* hop: a slot map for deck electronics, proved. This is the C surface, over the archive libhop_c.a.
  *
- * C99, and C++11 takes it too. The archive is what `rt staticlib hop_c` writes, for x86-64 Linux. It needs no other library, uses no memory but
- * the stack and what is lent, and keeps nothing between calls. This file and the archive go together: where struct hop_answer grows, HOP_LAYOUT
- * is another number, and a caller is compiled anew. hop_layout tells the archive's number: ask it before any other call.
+ * C99, and C++11 takes it too. The archive is what `rt lib` writes in crates/hop_c, for x86-64 Linux. It needs no other library, uses no memory
+ * but the stack and what is lent, and keeps nothing between calls. This file and the archive go together: where struct hop_answer grows,
+ * HOP_LAYOUT is another number, and a caller is compiled anew. hop_layout tells the archive's number: ask it before any other call.
  *
  * WHAT IS LENT. Every call is lent two tables: four link words and one row of eight words for each slot, the same number of slots in both, from 1 to
  * HOP_LIMIT. The header, used and live, goes in by value, and each answer has the header for the next call. A key is a slot index and a version.

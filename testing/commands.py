@@ -8,7 +8,7 @@ import threading
 
 from tally import judged
 
-PROGRAM = pathlib.Path("target/bin/program")
+PROGRAM = pathlib.Path("crates/program/out/program")
 SECONDS = 10  # no run needs one; a run that takes as long hangs
 LENT = 1024  # 4,096 link words, four to a slot; slot 0 is never handed out
 WORDS = 8
