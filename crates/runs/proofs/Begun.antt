@@ -23,7 +23,8 @@ use Rattle.runs.specs.Rising.{rising}
 use Rattle.runs.specs.WholeTable.{start_on, rebuild_on}
 use Rattle.runs.specs.Tables.{Shows, Does}
 use Rattle.runs.proofs.Points.{alike_same, alike_other, put_same, put_other}
-use Rattle.runs.proofs.Words.{holds, holds_below, new_version, new_next, new_prev, new_other_end, length_slot}
+use Rattle.runs.proofs.Words.{holds, holds_below}
+use Rattle.runs.proofs.Readers.{new_version, new_next, new_prev, new_other_end, length_slot}
 use Rattle.runs.proofs.Rows.{row_below, row_new, length_row}
 use Rattle.runs.proofs.Counts.{odd_none, odd_but_one}
 use Rattle.runs.proofs.Sound.{LinkedTable}

@@ -16,7 +16,8 @@ use Rattle.rules.specs.declared.steps.InsertLinks.{InsertLinks}
 use Rattle.rules.proofs.Choice.{by_test, by_pick}
 use Rattle.runs.specs.Points.{put}
 use Rattle.runs.specs.Machine.{first, later, back_of}
-use Rattle.runs.proofs.Words.{holds, holds_below, words, new-words}
+use Rattle.runs.proofs.Words.{holds, holds_below}
+use Rattle.runs.proofs.Readers.{words, new_words}
 use Rattle.runs.proofs.Segments.{Seg}
 use Rattle.runs.proofs.Backs.{back_of_run}
 use Rattle.runs.proofs.Linked.{Linked, first_run}
@@ -71,7 +72,7 @@ module _ (l : List ℕ) (u : ℕ) (after : List ℕ) (L : LinkedTable l u after)
   pub grown_linked : (u + 1) * link_words ≤ length l → LinkedTable (new_slot l u 1) (u + 1) after
   grown_linked fits =
       let f : suc u ≡ u + 1 = omega arith in
-      simp (new-words, holds_below l (u + 1) u fits (omega arith))
+      simp (new_words, holds_below l (u + 1) u fits (omega arith))
       (subst (λ (k : ℕ). Linked (put v u 1) (put n u 0) (put p u 0) (put e u 0) k after) f (new_slot_lem v n p e u after L 1 refl))
 
   module _ (fits : u * link_words ≤ length l) (w : ℕ) (odd : w % 2 ≡ 1) (some : other_end_at l u (next_at l u 0) ≢ 0) where

@@ -24,7 +24,8 @@ use Rattle.runs.specs.Machine.{Machine, first, later, machine_of}
 use Rattle.runs.specs.Steps.{Step, place, insert_number_on, grown_by, filled_by, insert_on}
 use Rattle.runs.specs.Tables.{Shows, Does}
 use Rattle.runs.proofs.Points.{put_same, put_other}
-use Rattle.runs.proofs.Words.{holds_below, version_put, length_link, new_version, length_slot}
+use Rattle.runs.proofs.Words.{holds_below, length_link}
+use Rattle.runs.proofs.Readers.{version_put, new_version, length_slot}
 use Rattle.runs.proofs.Rows.{row_below, row_put, row_new, length_row}
 use Rattle.runs.proofs.Counts.{odd_change, odd_more, odd_same}
 use Rattle.runs.proofs.Followed.{insert_h, insert_b, insert_before, insert_n, insert_n_not_h, insert_room}

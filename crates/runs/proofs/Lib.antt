@@ -3,7 +3,7 @@
 --   start and rebuild leave a sound table                                         Begun
 --   the chain of a sound table is unique                                          Sound
 --   the check accepts exactly the sound tables                                    Checked
---   relinking leaves a sound table, its chain rising; rows of vacant slots        Relinked, ClearedRows
+--   relinking leaves a sound table, its chain rising; rows of vacant slots        RelinkedSound, ClearedRows
 --   the lowest live slot is other_end(0) + 1                                      Drained
 --   a walk visits exactly the live keys, rising, each once, and ends              Walked
 --   the chosen removed, for any choice: what is left, and how many went           Chosen, ChosenLeaves
@@ -11,10 +11,11 @@
 --   full is exactly used = lent and nothing but slot 0 vacant                     Full
 --   words inside a run and link words of occupied slots mean nothing              Calls
 --
--- A table as functions of the slot: one changed slot; the four link words and the rows; how often a slot stands in a list; and a
+-- A table as functions of the slot: one changed slot; one link word, the four, and the rows; how often a slot stands in a list; and a
 -- doubly linked way through slots.
 pub mod Points
 pub mod Words
+pub mod Readers
 pub mod Rows
 pub mod Times
 pub mod Segments
@@ -40,6 +41,7 @@ pub mod Circles
 pub mod Checked
 pub mod Chained
 pub mod Relinked
+pub mod RelinkedSound
 pub mod ClearedRows
 -- Each call of the rules is the machine's step: what all calls share, then insert and remove (the words they write, then the call),
 -- the hop step and walks, the drain step, the removal of the chosen, retain's way to it, the beginnings, the rest.

@@ -1,6 +1,6 @@
--- Relinking leaves a sound table from any words with slot 0 even: the versions and the length stay, and the chain is the runs'
--- fronts in rising order. Assumes nothing.
-use mathlib.Core.Path.{◌≡◌, refl, sym, ap, ◌∙◌}
+-- Relinking links a table from any words with slot 0 even: the versions and the length stay, and the chain is the runs' fronts in
+-- rising order. Assumes nothing.
+use mathlib.Core.Path.{◌≡◌, refl, ◌∙◌}
 use mathlib.Core.List.{List}
 use mathlib.Core.Bool.{Bool, true, false}
 use Prim.Native.Nat.{ℕ, zero, suc, ◌*◌, ◌≤◌, ◌<◌, ◌%◌}
@@ -9,16 +9,16 @@ use native.Mathlib.Omega.{arith}
 use lib.ListN.{length}
 use Rattle.rules.specs.Choice.{pick}
 use Rattle.rules.specs.Words.{link_words, version_at, next_at, prev_at, other_end_at}
-use Rattle.rules.specs.Runs.{Run, is_front, is_back, odd_count}
+use Rattle.rules.specs.Runs.{Run, is_front, is_back}
 use Rattle.rules.specs.Rebuild.{unlinked, Chain, chain_run, chain_slot, chain_slots, closed, relinked}
-use Rattle.rules.specs.Sound.{Sound}
 use Rattle.rules.proofs.Choice.{by_pick}
 use Rattle.runs.specs.Rising.{rising}
 use Rattle.runs.proofs.Points.{put_same, put_other}
-use Rattle.runs.proofs.Words.{holds, holds_below, words}
+use Rattle.runs.proofs.Words.{holds, holds_below}
+use Rattle.runs.proofs.Readers.{words}
 use Rattle.runs.proofs.RunTests.{back_vacant, back_is}
 use Rattle.runs.proofs.Chained.{Chained, pass, join, last_in_use, none_yet, all_linked}
-use Rattle.runs.proofs.Sound.{LinkedTable, sound, chain_is}
+use Rattle.runs.proofs.Sound.{LinkedTable}
 
 -- one length, and one version in every slot
 abbrev Same : ℕ → List ℕ → List ℕ → Type 0
@@ -133,12 +133,3 @@ module _ (l : List ℕ) (n : ℕ) where
         closed_linked (version_at l n) n (chain_slots n n (start l n)) some even (s.1 ∙ u.1) (omega (arith, s.0, u.0))
         (slots (version_at l n) n (start l n) u.1 (omega (arith, u.0))
         (none_yet (version_at l n) _ _ _ n (unlinked_zero l n fits n some (omega arith))) n (omega arith))
-
-    pub relinked_sound : Sound (relinked l n).links (relinked l n).header
-    unfolding relinked
-    relinked_sound = sound _ _ (rising (version_at l n) n) relinked_linked (ap (λ (v : ℕ → ℕ). odd_count v n) (sym (relinked_versions n)))
-
-    -- the chain, by any proof, is the fronts in rising order
-    pub relinked_chain : (s : Sound (relinked l n).links (relinked l n).header) → s.circle.after ≡ rising (version_at l n) n
-    unfolding relinked
-    relinked_chain s = chain_is _ _ s (rising (version_at l n) n) relinked_linked

@@ -15,7 +15,8 @@ use Rattle.rules.proofs.SlotTests.{vacant_is, vacant_not}
 use Rattle.runs.specs.Machine.{renamed, without, fronts_after}
 use Rattle.runs.proofs.Points.{alike_other}
 use Rattle.runs.proofs.Times.{times_split}
-use Rattle.runs.proofs.Words.{holds, holds_below, words}
+use Rattle.runs.proofs.Words.{holds, holds_below}
+use Rattle.runs.proofs.Readers.{words}
 use Rattle.runs.proofs.Runs.{par}
 use Rattle.runs.proofs.Fronts.{fronts_once}
 use Rattle.runs.proofs.ChainEdits.{renamed_at, without_at}

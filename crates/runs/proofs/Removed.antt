@@ -27,7 +27,8 @@ use Rattle.runs.specs.Machine.{Machine, key_of, machine_of, fronts_after}
 use Rattle.runs.specs.Steps.{key_number_on, freed_on, taken_out, remove_on}
 use Rattle.runs.specs.Tables.{Shows, Does}
 use Rattle.runs.proofs.Points.{put_same, put_other}
-use Rattle.runs.proofs.Words.{holds_below, version_put, length_link}
+use Rattle.runs.proofs.Words.{holds_below, length_link}
+use Rattle.runs.proofs.Readers.{version_put}
 use Rattle.runs.proofs.Rows.{row_below, row_put, length_row}
 use Rattle.runs.proofs.Counts.{rise_even, odd_change, odd_some}
 use Rattle.runs.proofs.Followed.{IsVacant, remove_t, remove_right_links, remove_left_link}
