@@ -1,11 +1,12 @@
 """A scratch copy of the repository in which wrong programs are given to the prover, one at a time: the mutants of audit/code, the must-fail edits of
-tests/edits."""
+audit/edits."""
 import os
 import pathlib
 import re
 import shutil
 import signal
 import subprocess
+import tempfile
 import time
 
 import verdict
@@ -15,65 +16,55 @@ LONGEST = 600  # seconds for one check
 
 
 class Room:
-    """The crates without their must-fail edits, and what the repository has proved of them, so that only the crate at hand is checked."""
+    """The crates without their must-fail edits, with what rt kept of its checks of them, so that only the crate at hand is checked. It lies outside the
+    repository, where rt ci refuses a source that is of no crate, and goes when the run ends."""
 
-    def __init__(self, root, folder):
-        self.root, self.folder = pathlib.Path(root), pathlib.Path(folder)
-        self.folder.mkdir(parents=True)
+    def __init__(self, root):
+        self.root = pathlib.Path(root)
+        self.place = tempfile.TemporaryDirectory(prefix="hop-audit-")
+        self.folder = pathlib.Path(self.place.name)
         shutil.copy(self.root / "crates.txt", self.folder)
         for crate in (self.root / "crates").iterdir():
             self.renew(crate.name)
-        self.build = name_of_build(self.folder / "nothing")
-        self.kept = self.folder / "target/kept"
-
-    def fetch(self):
-        """What the repository has proved by now: a crate has its stamp once its library is written. It is copied, not linked: nothing that is done in
-        a room can reach what the gate reads."""
-        (self.folder / "target/stamp").mkdir(parents=True, exist_ok=True)
-        for stamp in (self.root / "target/stamp").glob("*"):
-            here, library = self.folder / "target/stamp" / stamp.name, f"target/rlib/{stamp.name}.rlib"
-            if not here.exists() and stamp.stat().st_size:
-                if (self.root / library).is_dir():
-                    shutil.copytree(self.root / library, self.folder / library)
-                shutil.copy(stamp, here)
+            if (crate / "out").is_dir():
+                shutil.copytree(crate / "out", self.crate(crate.name) / "out", symlinks=True)
+        self.kept = self.folder / "kept"
 
     def crate(self, crate):
         return self.folder / "crates" / crate
 
     def renew(self, crate):
-        """The crate as it stands, whatever was done to the copy."""
-        shutil.rmtree(self.crate(crate), ignore_errors=True)
-        shutil.copytree(self.root / "crates" / crate, self.crate(crate), symlinks=True, ignore=shutil.ignore_patterns("must-fail"))
+        """The crate as it stands, whatever was done to the copy; what rt keeps in its folder out stays."""
+        for part in self.crate(crate).glob("*"):
+            if part.name != "out":
+                shutil.rmtree(part) if part.is_dir() else part.unlink()
+        left_out = shutil.ignore_patterns("must-fail", "out")
+        shutil.copytree(self.root / "crates" / crate, self.crate(crate), symlinks=True, ignore=left_out, dirs_exist_ok=True)
 
     def begin(self, crate):
-        """Checks the crate as it stands, over what the gate's check of it left. What is kept of this check is what each later one starts from."""
-        self.fetch()
-        shutil.rmtree(self.inc(crate), ignore_errors=True)
-        left = self.folder / f"target/rlib/{crate}.rlib/toolchain/checked"
-        if self.build and left.is_dir():
-            shutil.copytree(left, self.inc(crate) / self.build)
+        """Checks the crate as it stands. What is kept of this check is what each later one starts from."""
         status, log = self.check(crate)
         shutil.rmtree(self.kept, ignore_errors=True)
-        if self.inc(crate).is_dir():
-            shutil.copytree(self.inc(crate), self.kept)
+        if self.work(crate).is_dir():
+            shutil.copytree(self.work(crate), self.kept)
         return judged(status, log), log
 
-    def inc(self, crate):
-        return self.folder / "target/inc" / crate
+    def work(self, crate):
+        """What a check keeps for the next one."""
+        return self.crate(crate) / "out/incremental"
 
     def check(self, crate):
         """Exit status and log of a check; status None where it did not end."""
-        said = self.folder / "target/said"
-        said.parent.mkdir(exist_ok=True)
+        said = self.folder / "said"
         with open(said, "w", encoding="utf-8") as out:
-            run = subprocess.Popen(["rt", "dev", crate], cwd=self.folder, stdout=out, stderr=subprocess.STDOUT, start_new_session=True)
+            run = subprocess.Popen(["rt", "check"], cwd=self.crate(crate), stdout=out, stderr=subprocess.STDOUT, start_new_session=True)
             try:
                 status = run.wait(LONGEST)
             except subprocess.TimeoutExpired:
                 os.killpg(run.pid, signal.SIGKILL)
                 run.wait()
                 status = None
-        return status, said.read_text(encoding="utf-8").replace(f"{self.folder}/", "")
+        return status, said.read_text(encoding="utf-8", errors="replace").replace(f"{self.folder}/", "")
 
     def give(self, mutant, text, fresh):
         """The verdict on one mutant, its log and the seconds that it took."""
@@ -89,35 +80,29 @@ class Room:
         nothing alone."""
         result, log = (None, "") if fresh else self.over_kept(crate)
         if result in (None, SURVIVES):
-            shutil.rmtree(self.inc(crate), ignore_errors=True)
+            # an empty folder: where there is none, rt begins with what a check of the same crate kept elsewhere on this machine
+            shutil.rmtree(self.work(crate), ignore_errors=True)
+            self.work(crate).mkdir(parents=True)
             status, log = self.check(crate)
             result = judged(status, log)
         return result, log
 
     def over_kept(self, crate):
         """One check, over a copy of what was kept of the crate as it stands."""
-        shutil.rmtree(self.inc(crate), ignore_errors=True)
-        shutil.copytree(self.kept, self.inc(crate))
+        shutil.rmtree(self.work(crate), ignore_errors=True)
+        shutil.copytree(self.kept, self.work(crate))
         status, log = self.check(crate)
         return judged(status, log), log
 
 
-def name_of_build(folder):
-    """The name of the folder in which this build of the toolchain keeps what it checked, by a check of a crate with nothing in it; where it has none,
-    each crate is checked from nothing first."""
-    (folder / "crates/nothing/src").mkdir(parents=True)
-    (folder / "crates.txt").write_text("nothing:\n", encoding="utf-8")
-    (folder / "crates/nothing/src/lib.rt").touch()
-    subprocess.run(["rt", "dev", "nothing"], cwd=folder, stdout=subprocess.DEVNULL, stderr=subprocess.DEVNULL)
-    return next((path.name for path in folder.glob("target/inc/nothing/*")), None)
-
-
 def judged(status, log):
-    if status == 0 and re.search(r"^logic=proved", log, re.M):
+    """By the last verdict of the log: the libraries below may have had theirs before it."""
+    last = re.findall(r"^logic=(\S+)", log, re.M)[-1:]
+    if status == 0 and last == ["proved"]:
         return SURVIVES
-    if status == 1 and re.search(r"^logic=not-proved", log, re.M):
+    if status == 1 and last == ["not-proved"]:
         why, _ = verdict.reason(log)
         return UNDECIDED if why == verdict.NOTHING else why
-    if status == 1 and "error[" in log and not re.search(r"^logic=", log, re.M):
+    if status == 1 and re.search(r"error\[", log.rpartition("\nlogic=")[2]):
         return NO_PROGRAM
     return UNDECIDED

@@ -52,7 +52,7 @@ class Sources:
     def read(self, crate, path):
         text = (self.root / path).read_text(encoding="utf-8")
         self.texts[path] = text
-        self.uses[path] = {name: way for way, name in re.findall(r"^(?:pub )?use ((?:\w+::)+)(\w+);", text, re.M)}
+        self.uses[path] = dict(found[::-1] for found in brought_in(text))
         self.aliases.update(re.findall(r"^pub type (\w+) = (.+);$", text, re.M))
         for name, fields in re.findall(r"^(?:pub )?struct (\w+) \{\n(.*?)^\}", text, re.M | re.S):
             self.structs[name] = dict(re.findall(r"(\w+): ([^,\n]+),", fields))
@@ -108,6 +108,14 @@ class Sources:
         return found
 
 
+def brought_in(text):
+    """The names that a file of code brings in, each with the path before it; of several in braces each by itself."""
+    found = []
+    for way, names, name in re.findall(r"^(?:pub )?use ((?:\w+::)+)(?:\{([^{}]*)\}|(\w+));", text, re.M):
+        found += [(way, one) for one in re.findall(r"\w+", names or name)]
+    return found
+
+
 def tokens(text, starts, ends):
     found, at = [], starts
     while at < ends:
@@ -134,5 +142,5 @@ def split(text):
 def public_calls(root, sources):
     """The functions that the face hands on."""
     face = (pathlib.Path(root) / "crates/hop/src/lib.rt").read_text(encoding="utf-8")
-    labels = [f"{crate}/{name}" for crate, name in re.findall(r"^pub use (\w+)::(\w+);", face, re.M)]
+    labels = [f"{way.removesuffix('::')}/{name}" for way, name in brought_in(face)]
     return [label for label in labels if label in sources.items and label.split("/")[1].islower()]

@@ -8,14 +8,25 @@ MARKS = ("that can be named from here", "is not in scope", "has no field", "has 
 REFUSED = "refused, as it must be: "
 
 
+def names_alone(error):
+    """Whether an error says only that the proof names what the code no longer has: today a goal has the names of the code in its own."""
+    return any(mark in "error" + error for mark in MARKS)
+
+
+def told(log):
+    """The errors of a log, without what follows from an earlier refusal, and the facts that are refused: errors, and what no proof was found for."""
+    errors = [error for error in re.findall(r": error(.*)$", log, re.M) if "was not admitted" not in error]
+    unproved = re.findall(r"^note: \S+: it is not proved that .*$", log, re.M) + re.findall(r"^fn .*no proof: .*did not prove", log, re.M)
+    return errors, [error for error in errors if not names_alone(error)] + unproved
+
+
 def reason(log):
     """Why the prover refused: FACT where each error is a fact that does not hold, UNFIT with the first error that only says that the proof no
-    longer fits the code, NOTHING where no fact is named. What follows from an earlier refusal is passed over."""
-    errors = [e for e in re.findall(r": error(.*)$", log, re.M) if "was not admitted" not in e]
+    longer fits the code, NOTHING where no fact is named."""
+    errors, facts = told(log)
     for error in errors:
-        if any(mark in "error" + error for mark in MARKS):
+        if names_alone(error):
             return UNFIT, error[:200]
-    facts = errors + re.findall(r"^note: \S+: it is not proved that .*$", log, re.M) + re.findall(r"^fn .*no proof: .*did not prove", log, re.M)
     return (FACT, "") if facts else (NOTHING, "")
 
 
