@@ -1,5 +1,5 @@
 // A line of the list: its first word, as a number, and the numbers after it. docs/LIST.md says the language.
-ghost use Rattle.std.specs.Prelude.{◌≡◌, ℕ, ◌≤◌, ◌<◌, ◌≢◌, length, slice_index};
+ghost use Rattle.std.specs.Prelude.{◌≡◌, ℕ, ◌≤◌, ◌<◌, ◌≢◌, min, length, slice_index};
 
 // The first words of the language, as numbers: their places among the names in command_of. Settings come first, then what only reads, then what
 // changes rows alone.
@@ -48,13 +48,12 @@ pub(crate) const NUMBERS: usize = 64;
 
 // The place of the first such byte of a text, from byte `from` on; the text's length where there is none.
 pub(crate) fn find(text: &[u8], from: usize, byte: u8) -> usize
-    requires { from ≤ length text.now }
-    ensures after { from ≤ result }
+    ensures after { min from (length text.now) ≤ result }
     ensures within { result ≤ length text.now }
     ensures before { (k : ℕ) → from ≤ k → k < result → slice_index text.now k ≢ byte }
     ensures found { result < length text.now → slice_index text.now result ≡ byte }
 {
-    let mut at = from;
+    let mut at = from.min(text.len());
     while at < text.len() && text[at] != byte {
         at += 1;
     }
