@@ -17,7 +17,7 @@ def take_out():
     """Takes out those that fail, until the rest is proved; their names."""
     taken = set()
     while True:
-        status, said = scratch.rt("check", "rules")
+        status, said = scratch.check("rules")
         if status == 0:
             return taken
         names = {file.rpartition("/")[2].removesuffix(".antt") for file in scratch.refused_in(said)}

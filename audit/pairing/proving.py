@@ -90,8 +90,8 @@ def answers_of(group):
     free = sorted(crate for crate in crates if not blocked[crate])
     if not free:
         return set(), f"law {min(blocked.values())[0]}"
-    _, said = scratch.rt("check", *free)
-    proved = set(re.findall(r"^rt: (\w+) proved", said, re.M))
-    first = (scratch.refused_in(said) or ["no file named"])[0]
-    name = first.replace("/proofs/", "/").removesuffix(".antt").removesuffix("/Proof")
+    said = {crate: scratch.check(crate) for crate in free}
+    proved = {crate for crate, (status, _) in said.items() if status == 0}
+    first = ([file for _, told in said.values() for file in scratch.refused_in(told)] or ["no file named"])[0]
+    name = scratch.shown(first)
     return proved, "runs" if name.startswith("runs/") else f"reading ({name})"

@@ -25,7 +25,7 @@ def _looked_at(pair, question):
 @functools.cache
 def _sources(patterns):
     told = hashlib.sha256()
-    for top in sorted(path for pattern in patterns for path in pathlib.Path("crates").glob(pattern)):
+    for top in sorted(path for pattern in patterns for path in pathlib.Path("crates").glob(pattern) if path.name != "out"):
         for path in [top] if top.is_file() else sorted(top.rglob("*")):
             if path.is_file() and "must-fail" not in path.parts:
                 told.update(str(path).encode() + b"\0" + path.read_bytes() + b"\0")
