@@ -3,8 +3,8 @@
 
 Run once, at the top of the repository, with what tools/respell.py printed: python3 tools/respell_docs.py LIST
 A name is rewritten where it is a whole word inside backticks or in a block of code. One that the list does not have, and that the kit's port.py had
-respelled before it, goes to its snake case where the crates declare that; an operator `_+_` is `◌+◌`. A name that was in snake case already stands for other things on the pages
-too, so it is left. It prints what it rewrote, page by page, and what it could not.
+respelled before it, goes to its snake case where the crates declare that; an operator `_+_` is `◌+◌`. A name that was in snake case already stands
+for other things on the pages too, so it is left. It prints what it rewrote, page by page, and what it could not. Run again, it changes nothing.
 """
 import collections
 import pathlib
