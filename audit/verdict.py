@@ -13,10 +13,18 @@ def names_alone(error):
     return any(mark in "error" + error for mark in MARKS)
 
 
+def shown(note):
+    """Whether a goal that was not proved is shown false: values are known at which it fails. rt may cut the line short."""
+    return bool(re.search(r"`\); the facts?\b", note))
+
+
 def told(log):
-    """The errors of a log, without what follows from an earlier refusal, and the facts that are refused: errors, and what no proof was found for."""
+    """The errors of a log, without what follows from an earlier refusal, and the facts that are refused: errors, and what no proof was found for. Beside
+    an error of names alone a goal without a proof is no fact by itself: its proof may stand under another name. There it must be shown false."""
     errors = [error for error in re.findall(r": error(.*)$", log, re.M) if "was not admitted" not in error]
     unproved = re.findall(r"^note: \S+: it is not proved that .*$", log, re.M) + re.findall(r"^fn .*no proof: .*did not prove", log, re.M)
+    if any(names_alone(error) for error in errors):
+        unproved = [note for note in unproved if shown(note)]
     return errors, [error for error in errors if not names_alone(error)] + unproved
 
 
