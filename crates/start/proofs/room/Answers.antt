@@ -10,6 +10,7 @@ pub returns-then-number-ne-PASSES : goal.returns-then-number-ne-PASSES
 unfolding room_rule
 returns-then-number-ne-PASSES c = refused_by _ _ _ _ _ c.entry_number-number.ensures _ c.if-number-ne-PASSES.true
 
+-- past the tests at entry the shape is right
 shape : (c : Else-number-ne-PASSES) → Shaped c.args.links.now c.args.rows.now c.args.header
 shape c = entered _ _ _ (sym c.entry_number-number.ensures ∙ c.if-number-ne-PASSES.false)
 

@@ -15,6 +15,7 @@ pub returns-then-number-ne-PASSES : goal.returns-then-number-ne-PASSES
 unfolding replace_rule
 returns-then-number-ne-PASSES c = numbered_by _ _ _ _ _ c.replace_number-number.ensures _ c.if-number-ne-PASSES.true
 
+-- past the tests the row is within the table and the side buffer is a row
 fits : (c : Else-number-ne-PASSES) →
     (c.args.key.index * row_words + row_words ≤ length c.args.rows.now) × (length c.args.side.now ≡ row_words)
 fits c = replace_within _ _ _ _ _ (sym c.replace_number-number.ensures ∙ c.if-number-ne-PASSES.false)
