@@ -49,14 +49,21 @@ def constants(sources, item, word):
     return [other if near else f"{home[0]}::{other}"]
 
 
+def variants(family, word):
+    """A variant that has no values becomes the next such of its enum."""
+    return [family[(family.index(word) + 1) % len(family)]] if word in family and len(family) > 1 else []
+
+
 def others(sources, walk, at):
     """What the token may become."""
     word, scope = walk.words[at], walk.scopes[at]
     if walk.words[at - 1:at] == ["."]:
         if walk.words[at + 1:at + 2] == ["("]:
             return []
-        fields = sources.structs.get(walk.owner(at), {})
+        fields = sources.fields(walk.owner(at))
         return [name for name, kind in fields.items() if name != word and kind == fields.get(word)]
+    if walk.words[at - 1:at] == ["::"]:
+        return [] if at in walk.patterns else variants(sources.enums.get(walk.words[at - 2], []), word)
     if not walk.is_operand(at):
         return []
     if word[0].isdigit():

@@ -1,15 +1,19 @@
 """The .rt sources as the audit sees them: functions with their bodies, constants, structs, and who calls whom.
 
 It reads the layout that rt fmt writes: an item starts at the left margin, and a body that follows a contract stands between a line '{' and a
-line '}'. Contracts are never read.
+line '}'. Contracts are never read, nor are methods: below the face the rules alone have some.
 """
 import dataclasses
 import pathlib
 import re
 
-TOKEN = re.compile(r"\s+|//[^\n]*|[A-Za-z_]\w*|\d\w*|::|->|=>|[-+*/%]=|==|!=|<=|>=|\.\.|.", re.S)
+TOKEN = re.compile(r"\s+|//[^\n]*|[A-Za-z_]\w*|\d\w*|::|->|=>|[-+*/%]=|==|!=|<=|>=|&&|\|\||\.\.|.", re.S)
 HEAD = re.compile(r"^(?:pub )?fn (\w+)", re.M)
+METHOD = re.compile(r"^ +(?:pub )?fn (\w+)", re.M)
 CONSTANT = re.compile(r"^(?:pub )?const (\w+): (\w+) = (\w+);$", re.M)
+STRUCT = re.compile(r"^(?:pub )?struct (\w+)(?:<(\w+)>)? \{\n(.*?)^\}", re.M | re.S)
+ENUM = re.compile(r"^(?:pub )?enum (\w+) \{\n(.*?)^\}", re.M | re.S)
+INTEGERS = ("u8", "u32", "usize")
 
 
 @dataclasses.dataclass
@@ -27,6 +31,7 @@ class Item:
     params: dict
     gives: str
     body: list
+    lends: str = ""  # what it hands to the closure that it takes
     calls: set = dataclasses.field(default_factory=set)
 
     @property
@@ -40,7 +45,7 @@ class Sources:
     def __init__(self, root, crates):
         self.root, self.crates = pathlib.Path(root), crates
         self.texts, self.items = {}, {}
-        self.structs, self.aliases, self.constants, self.uses = {}, {}, {}, {}
+        self.structs, self.enums, self.aliases, self.constants, self.uses = {"Range": ("T", {"start": "T", "end": "T"})}, {}, {}, {}, {}
         for crate in ["rules", *crates]:
             for path in sorted(self.root.glob(f"crates/{crate}/src/**/*.rt")):
                 self.read(crate, str(path.relative_to(self.root)))
@@ -54,8 +59,10 @@ class Sources:
         self.texts[path] = text
         self.uses[path] = dict(found[::-1] for found in brought_in(text))
         self.aliases.update(re.findall(r"^pub type (\w+) = (.+);$", text, re.M))
-        for name, fields in re.findall(r"^(?:pub )?struct (\w+) \{\n(.*?)^\}", text, re.M | re.S):
-            self.structs[name] = dict(re.findall(r"(\w+): ([^,\n]+),", fields))
+        for name, given, fields in STRUCT.findall(text):
+            self.structs[name] = (given, dict(re.findall(r"(\w+): (.+),$", fields, re.M)))
+        for name, variants in ENUM.findall(text):
+            self.enums[name] = re.findall(r"^    (\w+)(?: = \d+)?,$", variants, re.M)
         for found in CONSTANT.finditer(text):
             self.constants[(crate, path, found.group(1))] = found.group(2)
             if crate in self.crates:
@@ -63,6 +70,8 @@ class Sources:
         if crate in self.crates:
             for found in HEAD.finditer(text):
                 self.add(self.function(crate, path, found))
+            for name in METHOD.findall(text):
+                raise SystemExit(f"{path}: {name} is a method, and those are not read")
 
     def add(self, item):
         if item.label in self.items:
@@ -71,7 +80,8 @@ class Sources:
 
     def function(self, crate, path, head):
         text = self.texts[path]
-        opens = text.index("(", head.end())
+        bounds = text[head.end():past_bounds(text, head.end())]
+        opens = head.end() + len(bounds)
         closes = closing(text, opens)
         params = {}
         for param in split(text[opens + 1:closes]):
@@ -82,12 +92,21 @@ class Sources:
         ends = text.index("\n}\n", closes) + 1
         if ends < starts:
             raise SystemExit(f"{path}: the body of {head.group(1)} does not stand between '{{' and '}}'")
-        return Item(crate, path, head.group(1), params, self.plain(gives.group(1)) if gives else "", tokens(text, starts, ends))
+        lends = re.search(r"\bFn(?:Mut|Once)?\((\w+)\)", bounds)
+        return Item(crate, path, head.group(1), params, self.plain(gives.group(1)) if gives else "", tokens(text, starts, ends), lends.group(1) if lends else "")
 
     def plain(self, kind):
         """A type without lifetime and aliases; a slice lent to write is one lent to read as well."""
         kind = re.sub(r"'\w+ ", "", kind).replace("&mut ", "&").strip()
         return self.aliases.get(kind, kind)
+
+    def fields(self, kind):
+        """The fields of a struct with their types, those of a generic one as it is given."""
+        name, _, given = (kind or "").removesuffix(">").partition("<")
+        word, fields = self.structs.get(name, ("", {}))
+        if word and not given:
+            return {field: kind for field, kind in fields.items() if not re.search(rf"\b{word}\b", kind)}
+        return {field: self.plain(re.sub(rf"\b{word}\b", given, kind) if word else kind) for field, kind in fields.items()}
 
     def called(self, item, name):
         """The label of what a name in an item leads to, where that is an item."""
@@ -135,8 +154,19 @@ def closing(text, opens):
     raise SystemExit("a bracket is not closed")
 
 
+def past_bounds(text, at):
+    """Past the type parameters that stand here, if any do."""
+    depth = 0
+    while depth or text[at] != "(":
+        depth += (text[at] == "<") - (text[at] == ">" and text[at - 1] != "-")
+        at += 1
+    return at
+
+
 def split(text):
-    return [part for part in (p.strip() for p in text.split(",")) if part]
+    """The parts between commas, but for those in brackets."""
+    parts = re.findall(r"(?:[^,<(]|<[^>]*>|\([^)]*\))+", text)
+    return [part for part in (p.strip() for p in parts) if part]
 
 
 def public_calls(root, sources):

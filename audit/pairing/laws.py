@@ -1,4 +1,4 @@
-"""The laws of the rules' own crate: which proofs name them, and the failing ones taken out of the copy."""
+"""The laws of the rules' own crate: who names them, and the failing ones taken out of the copy."""
 import re
 
 from pairing import scratch
@@ -8,9 +8,10 @@ FOLDER = "crates/rules/proofs"
 
 
 def named(crate):
-    """The laws of the rules that the crate's proofs name."""
-    proofs = (scratch.ROOM / "crates" / crate / "proofs").rglob("*.antt")
-    return {law for path in proofs for law in re.findall(r"rules\.proofs\.(\w+)", path.read_text(encoding="utf-8"))}
+    """The laws of the rules that the crate's proofs name, and the attributes of its code."""
+    folder = scratch.ROOM / "crates" / crate
+    texts = [path.read_text(encoding="utf-8") for part in ("proofs/**/*.antt", "src/**/*.rt") for path in folder.glob(part)]
+    return {law for text in texts for law in re.findall(r"\brules(?:\.|::)proofs(?:\.|::)(\w+)", text)}
 
 
 def take_out():

@@ -48,8 +48,8 @@ def rt(crate, *words, given=subprocess.DEVNULL):
 
 
 def refused_in(said):
-    """The files in which something was refused, in the order told: CRATE/proofs/FILE. A crate's lines come after the one that chooses its jobs; where
-    no proof file is refused, the one is named that would have to be written."""
+    """The files in which something was refused, in the order told: CRATE/proofs/FILE. A crate's lines come after the one that chooses its jobs; of a
+    function that is not proved, though no file of its proof is refused, the one is named that would have to be written."""
     files, crate = [], ""
     for line in said.split("\n"):
         begun = re.match(r"rt: chose --jobs \d+ for (\w+)", line)
@@ -57,6 +57,10 @@ def refused_in(said):
         file = re.match(r"(?:\./)?(\S+?):\d+:\d+: error", line) or re.match(r"fn \S+: no proof: expected answers in (?:\./)?(\S+?);", line)
         if file and "was not admitted" not in line and f"{crate}/{file.group(1)}" not in files:
             files.append(f"{crate}/{file.group(1)}")
+        unproved = re.match(rf"fn {crate}::(\S+): not proved$", line)
+        folder = f"{crate}/proofs/{unproved.group(1).replace('::', '/')}/" if unproved else ""
+        if unproved and not any(name.startswith(folder) for name in files):
+            files.append(folder + "Answers.antt")
     return files
 
 

@@ -2,28 +2,18 @@
 ghost use Rattle.std.specs.Prelude.{◌≡◌, ◌+◌, length};
 ghost use Rattle.rules.specs.Access.{look_rule, look_start};
 
-use refusals::{PASSES, key_number};
+use refusals::check_key;
 use rules::{Header, Key, ROW_WORDS};
+use std::ops::Range;
 
-// Words of the row table: from start up to, and not with, end.
-#[derive(Drop)]
-pub struct Span {
-    pub start: usize,
-    pub end: usize,
-}
-
-// The row of a live key; for any other key no words.
-pub fn row_span(links: &[u32], rows: &[u32], header: Header, key: Key) -> Span
-    ensures start_value { result.start ≡ look_start links.now rows.now header key }
-    ensures end_value { result.end ≡ look_start links.now rows.now header key + length (look_rule links.now rows.now header key) }
+// The words of the row table that are the row of a live key; none for any other key.
+pub fn row_span(links: &[u32], rows: &[u32], header: Header, key: Key) -> Range<usize>
+    ensures start { result.start ≡ look_start links.now rows.now header key }
+    ensures end { result.end ≡ look_start links.now rows.now header key + length (look_rule links.now rows.now header key) }
 {
-    let index = key.index as usize;
-    if key_number(links, rows, header, key) != PASSES {
-        return Span { start: 0, end: 0 };
+    if let Err(_) = check_key(links, rows, header, key) {
+        return 0..0;
     }
-    let start = index * ROW_WORDS;
-    Span {
-        start,
-        end: start + ROW_WORDS,
-    }
+    let start = key.index as usize * ROW_WORDS;
+    start..start + ROW_WORDS
 }

@@ -9,7 +9,5 @@ pub fn look<'a>(links: &[u32], rows: &'a [u32], header: Header, key: Key) -> &'a
     ensures { RowPart links.now rows.entry header key result }
 {
     let span = row_span(links, rows, header, key);
-    let start = span.start;
-    let end = span.end;
-    &rows[start..end]
+    &rows[span.start..span.end]
 }

@@ -8,8 +8,6 @@ use rules::{Header, Key};
 pub fn look_mut<'a>(links: &[u32], rows: &'a mut [u32], header: Header, key: Key) -> &'a mut [u32]
     ensures { RowPartMut links.now rows.entry header key result }
 {
-    let span = row_span(links, &rows[..], header, key);
-    let start = span.start;
-    let end = span.end;
-    &mut rows[start..end]
+    let span = row_span(links, rows, header, key);
+    &mut rows[span.start..span.end]
 }

@@ -6,6 +6,7 @@ use rules::steps::Beside;
 use slots::words::{next, other_end, prev, set_next, set_other_end, set_prev};
 
 // Slot i becomes a run of its own, after the last.
+#[tactic(auto, unfolding(rules::specs::Remove::set_apart))]
 fn set_apart(links: &mut [u32], used: u32, i: u32)
     ensures { links.new ≡ set_apart links.old used i }
 {
@@ -18,6 +19,7 @@ fn set_apart(links: &mut [u32], used: u32, i: u32)
 }
 
 // Slot i becomes the front of the run after it.
+#[tactic(auto, unfolding(rules::specs::Remove::join_right))]
 fn join_right(links: &mut [u32], used: u32, i: u32, right: u32)
     ensures { links.new ≡ join_right links.old used i right }
 {
@@ -33,6 +35,7 @@ fn join_right(links: &mut [u32], used: u32, i: u32, right: u32)
 }
 
 // Slot i becomes the back of the run before it.
+#[tactic(auto, unfolding(rules::specs::Remove::join_left))]
 fn join_left(links: &mut [u32], used: u32, i: u32, left: u32)
     ensures { links.new ≡ join_left links.old used i left }
 {
@@ -42,6 +45,7 @@ fn join_left(links: &mut [u32], used: u32, i: u32, left: u32)
 }
 
 // The runs on both sides of the slot become one: the right one leaves the chain.
+#[tactic(auto, unfolding(rules::specs::Remove::join_both))]
 fn join_both(links: &mut [u32], used: u32, left: u32, right: u32)
     ensures { links.new ≡ join_both links.old used left right }
 {
@@ -56,18 +60,14 @@ fn join_both(links: &mut [u32], used: u32, left: u32, right: u32)
 }
 
 // Slot i joins the chain: by itself, or with the run on its left, on its right or on both sides.
+#[tactic(auto, unfolding(rules::specs::Remove::freed))]
 pub fn free(links: &mut [u32], used: u32, i: u32, x: Beside)
     ensures { links.new ≡ freed links.old used i x }
 {
-    if x.before {
-        if x.after {
-            join_both(links, used, x.left, x.right);
-        } else {
-            join_left(links, used, i, x.left);
-        }
-    } else if x.after {
-        join_right(links, used, i, x.right);
-    } else {
-        set_apart(links, used, i);
+    match (x.before, x.after) {
+        (true, true) => join_both(links, used, x.left, x.right),
+        (true, false) => join_left(links, used, i, x.left),
+        (false, true) => join_right(links, used, i, x.right),
+        (false, false) => set_apart(links, used, i),
     }
 }

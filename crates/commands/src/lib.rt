@@ -1,7 +1,6 @@
 // The commands of the stream: what each does over the map, and what is said of it.
 #![tactic(auto)]
 
-mod saying;
 mod turns;
 
 use hop::{Cursor, Header, Row};

@@ -1,11 +1,12 @@
 // One function for each command, and one for a step of a walk.
-ghost use Rattle.std.specs.Prelude.{◌≡◌};
+ghost use Rattle.std.specs.Prelude.{◌≡◌, MatchResult};
+ghost use Rattle.rules.specs.Refusals.{number_of};
+ghost use Rattle.wire.specs.declared.Saying.{Saying};
 ghost use Rattle.commands.specs.Turns.{run_of, turned, calmly, insert_turn, remove_turn, show_turn, look_turn, clear_turn, walk_turn, command_turn};
 
-use crate::saying::{say_cleared, say_key, say_row};
 use crate::{Phase, Stream, Turn};
 use access::look_row;
-use hop::{BROKEN_STREAM, Cursor, HopAnswer, Key, ROW_WORDS};
+use hop::{Cursor, Handed, HandedRow, HopAnswer, Key, ROW_WORDS, Refusal};
 use wire::words::{key_in, row_in};
 use wire::{Command, Saying};
 
@@ -13,56 +14,56 @@ use wire::{Command, Saying};
 pub fn calm(s: Stream, phase: Phase, saying: Saying) -> Turn
     ensures { result ≡ calmly s phase saying }
 {
-    let header = s.header;
-    let body = s.body;
     Turn {
-        stream: Stream {
-            header,
-            phase,
-            body,
-        },
+        stream: Stream { phase, ..s },
         saying,
-        row: [0u32; ROW_WORDS],
+        row: [0; ROW_WORDS],
+    }
+}
+
+// What a call gave is said as told, and a refusal by its number.
+fn said<T, F: FnOnce(T) -> Saying>(answer: Result<T, Refusal>, say: F) -> Saying
+    requires { F.IsAlwaysCallable say }
+    ensures { MatchResult answer (λ given. F.post say given result) (λ refusal. result ≡ Saying.Refused (number_of refusal)) }
+{
+    match answer {
+        Ok(given) => say(given),
+        Err(refusal) => Saying::Refused(u32::from(refusal)),
     }
 }
 
 fn insert_turn(links: &mut [u32], rows: &mut [u32], s: Stream) -> Turn
     ensures { turned result links.new rows.new ≡ insert_turn (run_of links.old rows.old s) }
 {
-    let body = s.body;
-    let side = row_in(&body);
-    let x = hop::insert(links, rows, s.header, &side);
-    let answer = x.answer;
-    let header = x.header;
-    let saying = say_key(answer);
+    let side = row_in(&s.body);
+    let Handed { answer, header } = hop::insert(links, rows, s.header, &side);
     Turn {
         stream: Stream {
             header,
             phase: Phase::Between,
-            body,
+            ..s
         },
-        saying,
-        row: [0u32; ROW_WORDS],
+        saying: said(answer, Saying::WithKey),
+        row: [0; ROW_WORDS],
     }
 }
 
 fn remove_turn(links: &mut [u32], rows: &mut [u32], s: Stream) -> Turn
     ensures { turned result links.new rows.new ≡ remove_turn (run_of links.old rows.old s) }
 {
-    let body = s.body;
-    let key = key_in(&body);
-    let x = hop::remove(links, rows, s.header, key);
-    let answer = x.answer;
-    let header = x.header;
-    let row = x.row;
-    let saying = say_row(answer);
+    let key = key_in(&s.body);
+    let HandedRow {
+        answer,
+        row,
+        header,
+    } = hop::remove(links, rows, s.header, key);
     Turn {
         stream: Stream {
             header,
             phase: Phase::Between,
-            body,
+            ..s
         },
-        saying,
+        saying: said(answer, Saying::WithRow),
         row,
     }
 }
@@ -71,19 +72,14 @@ fn remove_turn(links: &mut [u32], rows: &mut [u32], s: Stream) -> Turn
 fn show_turn(links: &[u32], rows: &[u32], s: Stream, phase: Phase, key: Key) -> Turn
     ensures { turned result links.now rows.now ≡ show_turn (run_of links.now rows.now s) phase key }
 {
-    let body = s.body;
-    let x = look_row(links, rows, s.header, key);
-    let answer = x.answer;
-    let header = x.header;
-    let row = x.row;
-    let saying = say_row(answer);
+    let HandedRow {
+        answer,
+        row,
+        header,
+    } = look_row(links, rows, s.header, key);
     Turn {
-        stream: Stream {
-            header,
-            phase,
-            body,
-        },
-        saying,
+        stream: Stream { header, phase, ..s },
+        saying: said(answer, Saying::WithRow),
         row,
     }
 }
@@ -91,27 +87,22 @@ fn show_turn(links: &[u32], rows: &[u32], s: Stream, phase: Phase, key: Key) -> 
 fn look_turn(links: &[u32], rows: &[u32], s: Stream) -> Turn
     ensures { turned result links.now rows.now ≡ look_turn (run_of links.now rows.now s) }
 {
-    let body = s.body;
-    let key = key_in(&body);
+    let key = key_in(&s.body);
     show_turn(links, rows, s, Phase::Between, key)
 }
 
 fn clear_turn(links: &mut [u32], rows: &mut [u32], s: Stream) -> Turn
     ensures { turned result links.new rows.new ≡ clear_turn (run_of links.old rows.old s) }
 {
-    let body = s.body;
-    let x = hop::clear(links, rows, s.header);
-    let answer = x.answer;
-    let header = x.header;
-    let saying = say_cleared(answer);
+    let Handed { answer, header } = hop::clear(links, rows, s.header);
     Turn {
         stream: Stream {
             header,
             phase: Phase::Between,
-            body,
+            ..s
         },
-        saying,
-        row: [0u32; ROW_WORDS],
+        saying: said(answer, |()| Saying::Done),
+        row: [0; ROW_WORDS],
     }
 }
 
@@ -119,12 +110,10 @@ fn clear_turn(links: &mut [u32], rows: &mut [u32], s: Stream) -> Turn
 pub fn walk_turn(links: &[u32], rows: &[u32], s: Stream, cursor: Cursor) -> Turn
     ensures { turned result links.now rows.now ≡ walk_turn (run_of links.now rows.now s) cursor }
 {
-    let x = hop::hop_step(links, rows, s.header, cursor);
-    let answer = x.answer;
-    match answer {
-        HopAnswer::Visited(key, next) => show_turn(links, rows, s, Phase::Walking(next), key),
-        HopAnswer::Done => calm(s, Phase::Between, Saying::Done),
-        HopAnswer::Refused(number) => calm(s, Phase::Between, Saying::Refused(number)),
+    match hop::hop_step(links, rows, s.header, cursor).answer {
+        Ok(HopAnswer::Visited(key, next)) => show_turn(links, rows, s, Phase::Walking(next), key),
+        Ok(HopAnswer::Done) => calm(s, Phase::Between, Saying::Done),
+        Err(refusal) => calm(s, Phase::Between, Saying::Refused(u32::from(refusal))),
     }
 }
 
@@ -138,6 +127,10 @@ pub fn command_turn(links: &mut [u32], rows: &mut [u32], s: Stream, command: Com
         Command::Look => look_turn(links, rows, s),
         Command::Clear => clear_turn(links, rows, s),
         Command::Walk => calm(s, Phase::Walking(0), Saying::Silent),
-        Command::Unknown => calm(s, Phase::Ended, Saying::Refused(BROKEN_STREAM)),
+        Command::Unknown => calm(
+            s,
+            Phase::Ended,
+            Saying::Refused(u32::from(Refusal::BrokenStream)),
+        ),
     }
 }

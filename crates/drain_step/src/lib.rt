@@ -2,66 +2,49 @@
 #![tactic(auto)]
 
 ghost use Rattle.std.specs.Prelude.{◌≡◌};
-ghost use Rattle.rules.specs.Words.{zero_row};
-ghost use Rattle.rules.specs.Values.{of_key, of_drain, drained};
+ghost use Rattle.rules.specs.Values.{of_drain, handed_row};
 ghost use Rattle.rules.specs.Remove.{remove_at};
 ghost use Rattle.rules.specs.Drain.{drain_rule};
 
-use refusals::{PASSES, entry_number};
+use refusals::check_entry;
 use remove::remove_at;
-use rules::{DAMAGED, DrainAnswer, Drained, Header, KeyAnswer, ROW_WORDS};
+use rules::{DrainAnswer, HandedRow, Header, ROW_WORDS, Refusal};
 use slots::words::other_end;
 
-// An answer that comes with no row.
-fn rowless(answer: DrainAnswer, header: Header) -> Drained
-    ensures { result ≡ record { answer = answer; row = zero_row; header = header } }
+// Slot q goes.
+fn drain_at(links: &mut [u32], rows: &mut [u32], header: Header, q: u32) -> HandedRow<DrainAnswer>
+    ensures { handed_row of_drain result links.new rows.new ≡ remove_at links.old rows.old header q }
 {
-    Drained {
+    let HandedRow {
         answer,
-        row: [0u32; ROW_WORDS],
+        row,
+        header,
+    } = remove_at(links, rows, header, q);
+    HandedRow {
+        answer: answer.map(DrainAnswer::Keyed),
+        row,
         header,
     }
 }
 
-// What remove answers, as an answer of the drain step.
-fn as_drained(answer: KeyAnswer) -> DrainAnswer
-    ensures { of_drain result ≡ of_key answer }
-{
-    match answer {
-        KeyAnswer::Keyed(key) => DrainAnswer::Keyed(key),
-        KeyAnswer::Refused(number) => DrainAnswer::Refused(number),
-    }
-}
-
-// Slot q goes.
-fn drain_at(links: &mut [u32], rows: &mut [u32], header: Header, q: u32) -> Drained
-    ensures { drained result links.new rows.new ≡ remove_at links.old rows.old header q }
-{
-    let gone = remove_at(links, rows, header, q);
-    let answer = gone.answer;
-    let row = gone.row;
-    let header_after = gone.header;
-    Drained {
-        answer: as_drained(answer),
-        row,
-        header: header_after,
-    }
-}
-
 // Takes one live row out and hands it back with its key; done when none is live.
-pub fn drain_step(links: &mut [u32], rows: &mut [u32], header: Header) -> Drained
-    ensures { drained result links.new rows.new ≡ drain_rule links.old rows.old header }
+#[tactic(auto, unfolding(rules::specs::Drain::drain_rule), using(rules::proofs::Outcomes::outcomes, rules::proofs::RemoveSteps::removes))]
+pub fn drain_step(links: &mut [u32], rows: &mut [u32], header: Header) -> HandedRow<DrainAnswer>
+    ensures { handed_row of_drain result links.new rows.new ≡ drain_rule links.old rows.old header }
 {
-    let number = entry_number(links, rows, header);
-    if number != PASSES {
-        return rowless(DrainAnswer::Refused(number), header);
+    if let Err(refusal) = check_entry(links, rows, header) {
+        return HandedRow::refused(refusal, header);
     }
     if header.live == 0 {
-        return rowless(DrainAnswer::Done, header);
+        return HandedRow {
+            answer: Ok(DrainAnswer::Done),
+            row: [0; ROW_WORDS],
+            header,
+        };
     }
     let back = other_end(links, header.used, 0);
     if header.used <= back {
-        return rowless(DrainAnswer::Refused(DAMAGED), header);
+        return HandedRow::refused(Refusal::Damaged, header);
     }
     drain_at(links, rows, header, back + 1)
 }

@@ -3,18 +3,18 @@
 
 ghost use Rattle.std.specs.Prelude.{◌≡◌};
 ghost use Rattle.rules.specs.Words.{zero_row};
-ghost use Rattle.rules.specs.Values.{done, visited, counted, refused, of_key, of_hop, of_drain, of_clear, of_count, of_number};
+ghost use Rattle.rules.specs.Refusals.{number_of};
+ghost use Rattle.rules.specs.Values.{Values, keyed, visited, counted, done, refused, found_by_hop, found_by_drain, answered};
 ghost use Rattle.flat.specs.Flat.{flat_of};
 
 use rules::{
-    ClearAnswer, CountAnswer, Cursor, DrainAnswer, Header, HopAnswer, Key, KeyAnswer, ROW_WORDS,
-    Row,
+    Cursor, DrainAnswer, Handed, HandedRow, Header, HopAnswer, Key, ROW_WORDS, Refusal, Row,
 };
 
 // The version of the struct's layout: another one when it grows.
 pub const LAYOUT: u32 = 1;
 
-// The kinds.
+// The kinds, as C reads them.
 pub const ANSWER: u32 = 0;
 
 pub const DONE: u32 = 1;
@@ -34,15 +34,8 @@ pub struct Answer {
     pub header: Header,
 }
 
-// The row of an answer that has none.
-pub fn no_row() -> Row
-    ensures { result ≡ zero_row }
-{
-    [0u32; ROW_WORDS]
-}
-
 // Every other case is this one with what it names.
-fn done(row: Row, header: Header) -> Answer
+fn ended(row: Row, header: Header) -> Answer
     ensures { result ≡ flat_of done row header }
 {
     Answer {
@@ -60,90 +53,117 @@ fn done(row: Row, header: Header) -> Answer
     }
 }
 
-fn visited(key: Key, cursor: Cursor, row: Row, header: Header) -> Answer
+fn visiting(key: Key, cursor: Cursor, row: Row, header: Header) -> Answer
     ensures { result ≡ flat_of (visited key cursor) row header }
 {
-    let mut x = done(row, header);
-    x.kind = ANSWER;
-    x.key = key;
-    x.cursor = cursor;
-    x
+    Answer {
+        kind: ANSWER,
+        key,
+        cursor,
+        ..ended(row, header)
+    }
 }
 
-fn counted(count: u32, row: Row, header: Header) -> Answer
+fn counting(count: u32, row: Row, header: Header) -> Answer
     ensures { result ≡ flat_of (counted count) row header }
 {
-    let mut x = done(row, header);
-    x.kind = ANSWER;
-    x.count = count;
-    x
-}
-
-fn refused(number: u32, row: Row, header: Header) -> Answer
-    ensures { result ≡ flat_of (refused number) row header }
-{
-    let mut x = done(row, header);
-    x.kind = REFUSED;
-    x.number = number;
-    x
-}
-
-pub fn of_key(answer: KeyAnswer, row: Row, header: Header) -> Answer
-    ensures { result ≡ flat_of (of_key answer) row header }
-{
-    match answer {
-        KeyAnswer::Keyed(key) => visited(key, 0, row, header),
-        KeyAnswer::Refused(number) => refused(number, row, header),
+    Answer {
+        kind: ANSWER,
+        count,
+        ..ended(row, header)
     }
 }
 
-pub fn of_hop(answer: HopAnswer, header: Header) -> Answer
-    ensures { result ≡ flat_of (of_hop answer) zero_row header }
+fn refusing(refusal: Refusal, row: Row, header: Header) -> Answer
+    ensures { result ≡ flat_of (refused (number_of refusal)) row header }
 {
-    let row = no_row();
-    match answer {
-        HopAnswer::Visited(key, cursor) => visited(key, cursor, row, header),
-        HopAnswer::Done => done(row, header),
-        HopAnswer::Refused(number) => refused(number, row, header),
+    Answer {
+        kind: REFUSED,
+        number: u32::from(refusal),
+        ..ended(row, header)
     }
 }
 
-pub fn of_drain(answer: DrainAnswer, row: Row, header: Header) -> Answer
-    ensures { result ≡ flat_of (of_drain answer) row header }
-{
-    match answer {
-        DrainAnswer::Keyed(key) => visited(key, 0, row, header),
-        DrainAnswer::Done => done(row, header),
-        DrainAnswer::Refused(number) => refused(number, row, header),
+// What a call gives where it is not refused, and how that is written.
+pub trait Given {
+    ghost values: { Self → Values };
+
+    fn written(self, row: Row, header: Header) -> Answer
+        ensures { result ≡ flat_of (values self) row header };
+}
+
+impl Given for () {
+    ghost values = { λ _. done };
+
+    fn written(self, row: Row, header: Header) -> Answer {
+        ended(row, header)
     }
 }
 
-pub fn of_clear(answer: ClearAnswer, header: Header) -> Answer
-    ensures { result ≡ flat_of (of_clear answer) zero_row header }
-{
-    let row = no_row();
-    match answer {
-        ClearAnswer::Done => done(row, header),
-        ClearAnswer::Refused(number) => refused(number, row, header),
+impl Given for Key {
+    ghost values = { keyed };
+
+    fn written(self, row: Row, header: Header) -> Answer {
+        visiting(self, 0, row, header)
     }
 }
 
-pub fn of_count(answer: CountAnswer, header: Header) -> Answer
-    ensures { result ≡ flat_of (of_count answer) zero_row header }
-{
-    let row = no_row();
-    match answer {
-        CountAnswer::Counted(count) => counted(count, row, header),
-        CountAnswer::Refused(number) => refused(number, row, header),
+// A count.
+impl Given for u32 {
+    ghost values = { counted };
+
+    fn written(self, row: Row, header: Header) -> Answer {
+        counting(self, row, header)
     }
 }
 
-pub fn of_number(number: u32, header: Header) -> Answer
-    ensures { result ≡ flat_of (of_number number) zero_row header }
-{
-    let row = no_row();
-    if number != 0 {
-        return refused(number, row, header);
+impl Given for HopAnswer {
+    ghost values = { found_by_hop };
+
+    fn written(self, row: Row, header: Header) -> Answer {
+        match self {
+            HopAnswer::Visited(key, cursor) => visiting(key, cursor, row, header),
+            HopAnswer::Done => ended(row, header),
+        }
     }
-    done(row, header)
+}
+
+impl Given for DrainAnswer {
+    ghost values = { found_by_drain };
+
+    fn written(self, row: Row, header: Header) -> Answer {
+        match self {
+            DrainAnswer::Keyed(key) => visiting(key, 0, row, header),
+            DrainAnswer::Done => ended(row, header),
+        }
+    }
+}
+
+impl<T: Given> From<HandedRow<T>> for Answer {
+    ghost from_gives = { λ x result. result ≡ flat_of (answered T.values x.answer) x.row x.header };
+
+    fn from(handed: HandedRow<T>) -> Answer {
+        let HandedRow {
+            answer,
+            row,
+            header,
+        } = handed;
+        match answer {
+            Ok(given) => given.written(row, header),
+            Err(refusal) => refusing(refusal, row, header),
+        }
+    }
+}
+
+impl<T: Given> From<Handed<T>> for Answer {
+    ghost from_gives = { λ x result. result ≡ flat_of (answered T.values x.answer) zero_row x.header };
+
+    fn from(handed: Handed<T>) -> Answer {
+        let Handed { answer, header } = handed;
+        Answer::from(HandedRow {
+            answer,
+            row: [0; ROW_WORDS],
+            header,
+        })
+    }
 }

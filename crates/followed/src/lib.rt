@@ -4,5 +4,5 @@
 mod inserting;
 mod removing;
 
-pub use inserting::{insert_links, insert_number};
-pub use removing::remove_number;
+pub use inserting::{check_insert, insert_links};
+pub use removing::check_remove;

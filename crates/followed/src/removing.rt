@@ -1,51 +1,63 @@
 // What the removal of a slot asks of the links beside it: by reading alone.
 ghost use Rattle.std.specs.Prelude.{◌≡◌};
+ghost use Rattle.rules.specs.Refusals.{passes, number_in};
 ghost use Rattle.rules.specs.Remove.{apart_number, left_number, right_number, remove_number};
 
-use refusals::{PASSES, or_astray, or_if};
+use refusals::astray;
 use rules::steps::Beside;
-use rules::{DAMAGED, Header};
-use slots::choice::both;
+use rules::{Header, Refusal};
 use slots::words::{next, other_end, prev};
 
-// A slot that would be a run of its own.
-fn apart_number(links: &[u32], header: Header, x: Beside) -> u32
-    ensures { result ≡ apart_number links.now header x }
+// A slot that would be a run of its own: the last run of the chain is t.
+#[tactic(auto, unfolding(rules::specs::Remove::apart_number), using(rules::proofs::Chain::chain))]
+fn check_apart(links: &[u32], header: Header, x: Beside) -> Result<(), Refusal>
+    ensures { number_in result ≡ apart_number links.now header x }
 {
-    let used = header.used;
-    let t = prev(links, used, 0);
-    let n = or_if(PASSES, header.live == 0, DAMAGED);
-    or_astray(n, both(!x.before, !x.after), links, used, t)
+    let t = prev(links, header.used, 0);
+    if header.live == 0 {
+        return Err(Refusal::Damaged);
+    }
+    if !x.before && !x.after && astray(links, header.used, t) {
+        return Err(Refusal::Damaged);
+    }
+    Ok(())
 }
 
-// The run on the left.
-fn left_number(n: u32, links: &[u32], header: Header, x: Beside) -> u32
-    ensures { result ≡ left_number n links.now header x }
+// The run on the left, from f on.
+#[tactic(auto, unfolding(rules::specs::Remove::left_number), using(rules::proofs::Chain::chain))]
+fn check_left(links: &[u32], header: Header, x: Beside) -> Result<(), Refusal>
+    ensures { number_in result ≡ left_number passes links.now header x }
 {
-    let used = header.used;
-    let f = other_end(links, used, x.left);
-    let n = or_astray(n, x.before, links, used, f);
-    or_if(n, both(x.before, x.left < f), DAMAGED)
+    let f = other_end(links, header.used, x.left);
+    if x.before && (astray(links, header.used, f) || x.left < f) {
+        return Err(Refusal::Damaged);
+    }
+    Ok(())
 }
 
-// The run on the right: the runs after and before it in the chain are n and p.
-fn right_number(k: u32, links: &[u32], header: Header, x: Beside) -> u32
-    ensures { result ≡ right_number k links.now header x }
+// The run on the right, up to e: the runs after and before it in the chain are n and p.
+#[tactic(auto, unfolding(rules::specs::Remove::right_number), using(rules::proofs::Chain::chain))]
+fn check_right(links: &[u32], header: Header, x: Beside) -> Result<(), Refusal>
+    ensures { number_in result ≡ right_number passes links.now header x }
 {
     let used = header.used;
     let n = next(links, used, x.right);
     let p = prev(links, used, x.right);
     let e = other_end(links, used, x.right);
-    let k = or_astray(k, x.after, links, used, n);
-    let k = or_astray(k, x.after, links, used, p);
-    let k = or_astray(k, x.after, links, used, e);
-    or_if(k, both(x.after, e < x.right), DAMAGED)
+    if x.after && (astray(links, used, n) || astray(links, used, p)) {
+        return Err(Refusal::Damaged);
+    }
+    if x.after && (astray(links, used, e) || e < x.right) {
+        return Err(Refusal::Damaged);
+    }
+    Ok(())
 }
 
-pub fn remove_number(links: &[u32], header: Header, x: Beside) -> u32
-    ensures { result ≡ remove_number links.now header x }
+#[tactic(auto, unfolding(rules::specs::Remove::remove_number, rules::specs::Remove::left_number, rules::specs::Remove::right_number), using(rules::proofs::Chain::chain))]
+pub fn check_remove(links: &[u32], header: Header, x: Beside) -> Result<(), Refusal>
+    ensures { number_in result ≡ remove_number links.now header x }
 {
-    let n = apart_number(links, header, x);
-    let n = left_number(n, links, header, x);
-    right_number(n, links, header, x)
+    check_apart(links, header, x)?;
+    check_left(links, header, x)?;
+    check_right(links, header, x)
 }

@@ -5,9 +5,7 @@ ghost use Rattle.commands.specs.Turns.{run_of, turned};
 ghost use Rattle.hearing.specs.Heard.{gathered, with_byte, heard, ended_in};
 
 use commands::{Phase, Stream, Turn, calm, command_turn};
-use hop::BROKEN_STREAM;
-use slots::choice::one_below;
-use wire::kinds::{body_length, command_of};
+use hop::Refusal;
 use wire::{Body, Command, Saying};
 
 // The body with its byte i.
@@ -26,8 +24,8 @@ fn with_byte(body: Body, i: u32, b: u8) -> Body
 fn kind_heard(links: &mut [u32], rows: &mut [u32], s: Stream, b: u8) -> Turn
     ensures { turned result links.new rows.new ≡ gathered (command_of b) 0 (run_of links.old rows.old s) }
 {
-    let command = command_of(b);
-    if 0 < body_length(command) {
+    let command = Command::from(b);
+    if 0 < command.body_length() {
         return calm(s, Phase::Gathering(command, 0), Saying::Silent);
     }
     command_turn(links, rows, s, command)
@@ -44,30 +42,22 @@ fn body_heard(
 ) -> Turn
     ensures { turned result links.new rows.new ≡ gathered command (got + 1) (with_byte (run_of links.old rows.old s) got b) }
 {
-    let header = s.header;
-    let phase = s.phase;
-    let held = s.body;
-    let body = with_byte(held, got, b);
-    let t = Stream {
-        header,
-        phase,
-        body,
-    };
-    if got < one_below(body_length(command)) {
+    let body = with_byte(s.body, got, b);
+    let t = Stream { body, ..s };
+    if got < command.body_length().saturating_sub(1) {
         return calm(t, Phase::Gathering(command, got + 1), Saying::Silent);
     }
     command_turn(links, rows, t, command)
 }
 
+#[tactic(auto, unfolding(crate::specs::Heard::heard))]
 pub fn heard(links: &mut [u32], rows: &mut [u32], s: Stream, b: u8) -> Turn
     ensures { turned result links.new rows.new ≡ heard (run_of links.old rows.old s) b }
 {
-    let phase = s.phase;
-    match phase {
+    match s.phase {
         Phase::Between => kind_heard(links, rows, s, b),
         Phase::Gathering(command, got) => body_heard(links, rows, s, command, got, b),
-        Phase::Walking(cursor) => calm(s, Phase::Walking(cursor), Saying::Silent),
-        Phase::Ended => calm(s, Phase::Ended, Saying::Silent),
+        Phase::Walking(_) | Phase::Ended => calm(s, s.phase, Saying::Silent),
     }
 }
 
@@ -75,11 +65,12 @@ pub fn heard(links: &mut [u32], rows: &mut [u32], s: Stream, b: u8) -> Turn
 pub fn ended(s: Stream) -> Turn
     ensures { result ≡ ended_in s.phase s }
 {
-    let phase = s.phase;
-    match phase {
-        Phase::Between => calm(s, Phase::Between, Saying::Silent),
-        Phase::Gathering(command, got) => calm(s, Phase::Ended, Saying::Refused(BROKEN_STREAM)),
-        Phase::Walking(cursor) => calm(s, Phase::Walking(cursor), Saying::Silent),
-        Phase::Ended => calm(s, Phase::Ended, Saying::Silent),
+    match s.phase {
+        Phase::Gathering(_, _) => calm(
+            s,
+            Phase::Ended,
+            Saying::Refused(u32::from(Refusal::BrokenStream)),
+        ),
+        Phase::Between | Phase::Walking(_) | Phase::Ended => calm(s, s.phase, Saying::Silent),
     }
 }

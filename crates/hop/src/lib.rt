@@ -11,10 +11,8 @@ pub use refusals::key_number;
 pub use remove::remove;
 pub use retain::retain;
 pub use rules::{
-    BROKEN_STREAM, ClearAnswer, Cleared, CountAnswer, Cursor, DAMAGED, DrainAnswer, Drained,
-    EVEN_VERSION, FULL, Header, HopAnswer, Hopped, Inserted, Key, KeyAnswer, LIMIT, LINK_WORDS,
-    NOT_LIVE, Numbered, ROW_WORDS, Removed, Retained, Roomed, Row, SHAPE, STALE_CURSOR,
-    WRONG_PRESENCE, ZERO_OCCUPIED,
+    Cursor, DrainAnswer, Handed, HandedRow, Header, HopAnswer, Key, LIMIT, LINK_WORDS, ROW_WORDS,
+    Refusal, Row,
 };
 pub use sound::sound;
 pub use start::{room, start};

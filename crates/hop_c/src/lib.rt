@@ -15,8 +15,8 @@ ghost use Rattle.rules.specs.Retain.{retain_rule};
 ghost use Rattle.rules.specs.Rebuild.{rebuild_rule};
 ghost use Rattle.flat.specs.Flat.{layout, surfaced, flattened, key_number_rule};
 
-use flat::{Answer, LAYOUT, no_row, of_clear, of_count, of_drain, of_hop, of_key, of_number};
-use rules::{Cursor, Header, Key};
+use flat::{Answer, LAYOUT};
+use rules::{Cursor, Handed, Header, Key};
 
 // The version of the answer's layout in this archive: a caller compares it with the header file's before any other call.
 #[unsafe(no_mangle)]
@@ -31,8 +31,7 @@ pub extern "C" fn hop_layout() -> u32
 pub extern "C" fn hop_start(links: &mut [u32], rows: &mut [u32], used: u32, live: u32) -> Answer
     ensures { surfaced result links.new rows.new ≡ flattened (start_rule links.old rows.old (record { used = used; live = live })) }
 {
-    let x = hop::start(links, rows, Header { used, live });
-    of_number(x.number, x.header)
+    Answer::from(hop::start(links, rows, Header { used, live }))
 }
 
 // How many slots are lent and not live.
@@ -40,9 +39,7 @@ pub extern "C" fn hop_start(links: &mut [u32], rows: &mut [u32], used: u32, live
 pub extern "C" fn hop_room(links: &[u32], rows: &[u32], used: u32, live: u32) -> Answer
     ensures { surfaced result links.now rows.now ≡ flattened (room_rule links.now rows.now (record { used = used; live = live })) }
 {
-    let x = hop::room(links, rows, Header { used, live });
-    let answer = x.answer;
-    of_count(answer, x.header)
+    Answer::from(hop::room(links, rows, Header { used, live }))
 }
 
 // Done for a live key, else refused with its number.
@@ -58,10 +55,10 @@ pub extern "C" fn hop_key_number(
     ensures { surfaced result links.now rows.now ≡ flattened (key_number_rule links.now rows.now (record { used = used; live = live }) (record { index = index; version = version })) }
 {
     let header = Header { used, live };
-    of_number(
-        hop::key_number(links, rows, header, Key { index, version }),
+    Answer::from(Handed {
+        answer: refusals::check_key(links, rows, header, Key { index, version }),
         header,
-    )
+    })
 }
 
 // A live key and its row, by value.
@@ -76,10 +73,7 @@ pub extern "C" fn hop_look(
 ) -> Answer
     ensures { surfaced result links.now rows.now ≡ flattened (look_row_rule links.now rows.now (record { used = used; live = live }) (record { index = index; version = version })) }
 {
-    let x = access::look_row(links, rows, Header { used, live }, Key { index, version });
-    let answer = x.answer;
-    let row = x.row;
-    of_key(answer, row, x.header)
+    Answer::from(access::look_row(links, rows, Header { used, live }, Key { index, version }))
 }
 
 // The row of a live key becomes the side buffer.
@@ -95,14 +89,13 @@ pub extern "C" fn hop_replace(
 ) -> Answer
     ensures { surfaced result links.now rows.new ≡ flattened (replace_rule links.now rows.old (record { used = used; live = live }) (record { index = index; version = version }) side.now) }
 {
-    let x = hop::replace(
+    Answer::from(hop::replace(
         links,
         rows,
         Header { used, live },
         Key { index, version },
         side,
-    );
-    of_number(x.number, x.header)
+    ))
 }
 
 // Takes a row in from the side buffer and answers with its key.
@@ -116,9 +109,7 @@ pub extern "C" fn hop_insert(
 ) -> Answer
     ensures { surfaced result links.new rows.new ≡ flattened (insert_rule links.old rows.old (record { used = used; live = live }) side.now) }
 {
-    let x = hop::insert(links, rows, Header { used, live }, side);
-    let answer = x.answer;
-    of_key(answer, no_row(), x.header)
+    Answer::from(hop::insert(links, rows, Header { used, live }, side))
 }
 
 // Takes the row of a live key out and hands it back.
@@ -133,10 +124,7 @@ pub extern "C" fn hop_remove(
 ) -> Answer
     ensures { surfaced result links.new rows.new ≡ flattened (remove_rule links.old rows.old (record { used = used; live = live }) (record { index = index; version = version })) }
 {
-    let x = hop::remove(links, rows, Header { used, live }, Key { index, version });
-    let answer = x.answer;
-    let row = x.row;
-    of_key(answer, row, x.header)
+    Answer::from(hop::remove(links, rows, Header { used, live }, Key { index, version }))
 }
 
 // The hop step: the next live slot from the cursor on, and the cursor to go on from. A walk starts at 0.
@@ -150,9 +138,7 @@ pub extern "C" fn hop_step(
 ) -> Answer
     ensures { surfaced result links.now rows.now ≡ flattened (hop_rule links.now rows.now (record { used = used; live = live }) cursor) }
 {
-    let x = hop::hop_step(links, rows, Header { used, live }, cursor);
-    let answer = x.answer;
-    of_hop(answer, x.header)
+    Answer::from(hop::hop_step(links, rows, Header { used, live }, cursor))
 }
 
 // Takes one live row out and hands it back with its key; done when none is live.
@@ -165,10 +151,7 @@ pub extern "C" fn hop_drain_step(
 ) -> Answer
     ensures { surfaced result links.new rows.new ≡ flattened (drain_rule links.old rows.old (record { used = used; live = live })) }
 {
-    let x = hop::drain_step(links, rows, Header { used, live });
-    let answer = x.answer;
-    let row = x.row;
-    of_drain(answer, row, x.header)
+    Answer::from(hop::drain_step(links, rows, Header { used, live }))
 }
 
 // Takes every live row out of a sound table.
@@ -176,9 +159,7 @@ pub extern "C" fn hop_drain_step(
 pub extern "C" fn hop_clear(links: &mut [u32], rows: &mut [u32], used: u32, live: u32) -> Answer
     ensures { surfaced result links.new rows.new ≡ flattened (clear_rule links.old rows.old (record { used = used; live = live })) }
 {
-    let x = hop::clear(links, rows, Header { used, live });
-    let answer = x.answer;
-    of_clear(answer, x.header)
+    Answer::from(hop::clear(links, rows, Header { used, live }))
 }
 
 // Keeps the live rows whose byte is not 0, and answers how many went.
@@ -192,9 +173,7 @@ pub extern "C" fn hop_retain(
 ) -> Answer
     ensures { surfaced result links.new rows.new ≡ flattened (retain_rule links.old rows.old (record { used = used; live = live }) keep.now) }
 {
-    let x = hop::retain(links, rows, Header { used, live }, keep);
-    let answer = x.answer;
-    of_count(answer, x.header)
+    Answer::from(hop::retain(links, rows, Header { used, live }, keep))
 }
 
 // Versions and rows that stand in place become a map, one presence byte a slot.
@@ -208,8 +187,7 @@ pub extern "C" fn hop_rebuild(
 ) -> Answer
     ensures { surfaced result links.new rows.new ≡ flattened (rebuild_rule links.old rows.old (record { used = used; live = live }) presence.now) }
 {
-    let x = hop::rebuild(links, rows, Header { used, live }, presence);
-    of_number(x.number, x.header)
+    Answer::from(hop::rebuild(links, rows, Header { used, live }, presence))
 }
 
 // Accepts exactly the sound tables.
@@ -217,6 +195,5 @@ pub extern "C" fn hop_rebuild(
 pub extern "C" fn hop_sound(links: &[u32], rows: &[u32], used: u32, live: u32) -> Answer
     ensures { surfaced result links.now rows.now ≡ flattened (check_rule links.now rows.now (record { used = used; live = live })) }
 {
-    let x = hop::sound(links, rows, Header { used, live });
-    of_number(x.number, x.header)
+    Answer::from(hop::sound(links, rows, Header { used, live }))
 }

@@ -4,19 +4,19 @@
 ghost use Rattle.std.specs.Prelude.{◌≡◌, true, ◌<◌, eqb};
 ghost use Rattle.rules.specs.Choice.{pick};
 ghost use Rattle.rules.specs.Words.{vacant_at, occupied_at};
-ghost use Rattle.rules.specs.Values.{of_hop, done, refused, hopped};
+ghost use Rattle.rules.specs.Values.{found_by_hop, of_hop, done, refused, handed};
 ghost use Rattle.rules.specs.Refusals.{damaged};
 ghost use Rattle.rules.specs.Hop.{visit, hop_from, hop_rule};
 
 use parity::past_front;
-use refusals::{PASSES, entry_number};
-use rules::{Cursor, DAMAGED, Header, HopAnswer, Hopped, Key, STALE_CURSOR};
+use refusals::check_entry;
+use rules::{Cursor, Handed, Header, HopAnswer, Key, Refusal};
 use slots::words::{occupied, other_end, vacant, version};
 
 // The key of slot i, which is in use, and the cursor after it.
 fn visit(links: &[u32], used: u32, i: u32) -> HopAnswer
     requires { i < used }
-    ensures { of_hop result ≡ visit links.now used i }
+    ensures { found_by_hop result ≡ visit links.now used i }
 {
     let key = Key {
         index: i,
@@ -26,63 +26,63 @@ fn visit(links: &[u32], used: u32, i: u32) -> HopAnswer
 }
 
 // The slot q after a run: the end at used, else its key.
-fn after_run(links: &[u32], used: u32, q: u32) -> HopAnswer
+#[tactic(auto, using(rules::proofs::Links::in_use))]
+fn after_run(links: &[u32], used: u32, q: u32) -> Result<HopAnswer, Refusal>
     ensures { of_hop result ≡ pick (eqb q used) done (pick (occupied_at links.now used q) (visit links.now used q) (refused damaged)) }
 {
     if q == used {
-        return HopAnswer::Done;
+        return Ok(HopAnswer::Done);
     }
     if !occupied(links, used, q) {
-        return HopAnswer::Refused(DAMAGED);
+        return Err(Refusal::Damaged);
     }
-    visit(links, used, q)
+    Ok(visit(links, used, q))
 }
 
 // From the vacant slot c over its run.
-fn hop_over(links: &[u32], header: Header, c: Cursor) -> HopAnswer
+#[tactic(auto, using(rules::proofs::HopSteps::hops, rules::proofs::Links::in_use))]
+fn hop_over(links: &[u32], header: Header, c: Cursor) -> Result<HopAnswer, Refusal>
     requires { vacant_at links.now header.used c ≡ true }
     ensures { of_hop result ≡ hop_from links.now header c }
 {
     let used = header.used;
     if past_front(links, used, c) {
-        return HopAnswer::Refused(STALE_CURSOR);
+        return Err(Refusal::StaleCursor);
     }
     let back = other_end(links, used, c);
     if !vacant(links, used, back) {
-        return HopAnswer::Refused(DAMAGED);
+        return Err(Refusal::Damaged);
     }
     if back < c {
-        return HopAnswer::Refused(DAMAGED);
+        return Err(Refusal::Damaged);
     }
     after_run(links, used, back + 1)
 }
 
 // The answer in a table of the right shape with slot 0 even.
-fn hop_from(links: &[u32], header: Header, cursor: Cursor) -> HopAnswer
+#[tactic(auto, using(rules::proofs::HopSteps::hops, rules::proofs::Links::in_use))]
+fn hop_from(links: &[u32], header: Header, cursor: Cursor) -> Result<HopAnswer, Refusal>
     ensures { of_hop result ≡ hop_from links.now header cursor }
 {
     let used = header.used;
     if used <= cursor {
-        return HopAnswer::Done;
+        return Ok(HopAnswer::Done);
     }
     if occupied(links, used, cursor) {
-        return visit(links, used, cursor);
+        return Ok(visit(links, used, cursor));
     }
     hop_over(links, header, cursor)
 }
 
 // The next live slot from the cursor on, and the cursor to go on from. A walk starts at 0.
-pub fn hop_step(links: &[u32], rows: &[u32], header: Header, cursor: Cursor) -> Hopped
-    ensures { hopped result links.now rows.now ≡ hop_rule links.now rows.now header cursor }
+#[tactic(auto, unfolding(rules::specs::Hop::hop_rule), using(rules::proofs::Outcomes::outcomes))]
+pub fn hop_step(links: &[u32], rows: &[u32], header: Header, cursor: Cursor) -> Handed<HopAnswer>
+    ensures { handed of_hop result links.now rows.now ≡ hop_rule links.now rows.now header cursor }
 {
-    let number = entry_number(links, rows, header);
-    if number != PASSES {
-        return Hopped {
-            answer: HopAnswer::Refused(number),
-            header,
-        };
+    if let Err(refusal) = check_entry(links, rows, header) {
+        return Handed::refused(refusal, header);
     }
-    Hopped {
+    Handed {
         answer: hop_from(links, header, cursor),
         header,
     }

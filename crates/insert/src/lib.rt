@@ -4,14 +4,13 @@
 
 ghost use Rattle.std.specs.Prelude.{◌≡◌, ◌-◌, ◌<◌, ◌^◌};
 ghost use Rattle.rules.specs.Words.{with_bit};
-ghost use Rattle.rules.specs.Values.{inserted};
+ghost use Rattle.rules.specs.Values.{of_key, handed};
 ghost use Rattle.rules.specs.Insert.{take_new, take_slot, insert_step, insert_rule};
 
 use chain::shorten;
-use followed::{insert_links, insert_number};
-use refusals::PASSES;
+use followed::{check_insert, insert_links};
 use rules::steps::InsertLinks;
-use rules::{Header, Inserted, Key, KeyAnswer};
+use rules::{Handed, Header, Key};
 use slots::headers::{grown, one_more};
 use slots::rows::set_row;
 use slots::words::{new_slot, set_version, version};
@@ -24,70 +23,72 @@ fn with_bit(v: u32) -> u32
 }
 
 // No slot is vacant: the one past those in use is taken.
-fn take_new(links: &mut [u32], rows: &mut [u32], header: Header, side: &[u32]) -> Inserted
+#[tactic(auto, unfolding(rules::specs::Insert::take_new))]
+fn take_new(links: &mut [u32], rows: &mut [u32], header: Header, side: &[u32]) -> Handed<Key>
     requires used_bound { header.used < 2 ^ 32 - 1 }
     requires live_lt_used { header.live < header.used }
-    ensures { inserted result links.new rows.new ≡ take_new links.old rows.old header side.now }
+    ensures { handed of_key result links.new rows.new ≡ take_new links.old rows.old header side.now }
 {
     let index = header.used;
     new_slot(links, index, 1);
     set_row(rows, index, side);
-    Inserted {
-        answer: KeyAnswer::Keyed(Key { index, version: 1 }),
+    Handed {
+        answer: Ok(Key { index, version: 1 }),
         header: grown(header),
     }
 }
 
 // A vacant slot, out of its run, is taken.
+#[tactic(auto, unfolding(rules::specs::Insert::take_slot))]
 fn take_slot(
     links: &mut [u32],
     rows: &mut [u32],
     header: Header,
     side: &[u32],
-    index: u32,
-    v: u32,
-) -> Inserted
+    key: Key,
+) -> Handed<Key>
     requires { header.live < 2 ^ 32 - 1 }
-    ensures { inserted result links.new rows.new ≡ take_slot links.old rows.old header side.now index v }
+    ensures { handed of_key result links.new rows.new ≡ take_slot links.old rows.old header side.now key.index key.version }
 {
-    set_version(links, index, v);
-    set_row(rows, index, side);
-    Inserted {
-        answer: KeyAnswer::Keyed(Key { index, version: v }),
+    set_version(links, key.index, key.version);
+    set_row(rows, key.index, side);
+    Handed {
+        answer: Ok(key),
         header: one_more(header),
     }
 }
 
+#[tactic(auto, unfolding(rules::specs::Insert::insert_step))]
 fn insert_step(
     links: &mut [u32],
     rows: &mut [u32],
     header: Header,
     side: &[u32],
     x: InsertLinks,
-) -> Inserted
+) -> Handed<Key>
     requires used_bound { header.used < 2 ^ 32 - 1 }
     requires live_lt_used { header.live < header.used }
-    ensures { inserted result links.new rows.new ≡ insert_step links.old rows.old header side.now x }
+    ensures { handed of_key result links.new rows.new ≡ insert_step links.old rows.old header side.now x }
 {
     if x.b == 0 {
         return take_new(links, rows, header, side);
     }
-    let v = with_bit(version(links, header.used, x.b));
+    let key = Key {
+        index: x.b,
+        version: with_bit(version(links, header.used, x.b)),
+    };
     shorten(links, x);
-    take_slot(links, rows, header, side, x.b, v)
+    take_slot(links, rows, header, side, key)
 }
 
 // Takes a row in from the side buffer and answers with its key.
-pub fn insert(links: &mut [u32], rows: &mut [u32], header: Header, side: &[u32]) -> Inserted
-    ensures { inserted result links.new rows.new ≡ insert_rule links.old rows.old header side.now }
+#[tactic(auto, unfolding(rules::specs::Insert::insert_rule, rules::specs::Insert::insert_by), using(rules::proofs::Outcomes::outcomes, rules::proofs::Links::insert_passed))]
+pub fn insert(links: &mut [u32], rows: &mut [u32], header: Header, side: &[u32]) -> Handed<Key>
+    ensures { handed of_key result links.new rows.new ≡ insert_rule links.old rows.old header side.now }
 {
     let x = insert_links(links, header.used);
-    let number = insert_number(links, rows, header, side, x);
-    if number != PASSES {
-        return Inserted {
-            answer: KeyAnswer::Refused(number),
-            header,
-        };
+    if let Err(refusal) = check_insert(links, rows, header, side, x) {
+        return Handed::refused(refusal, header);
     }
     insert_step(links, rows, header, side, x)
 }

@@ -5,27 +5,26 @@
 mod presence;
 
 ghost use Rattle.std.specs.Prelude.{◌≡◌};
-ghost use Rattle.rules.specs.Values.{numbered};
+ghost use Rattle.rules.specs.Values.{of_done, handed};
 ghost use Rattle.rules.specs.Rebuild.{rebuild_rule};
 
-use presence::rebuild_number;
-use refusals::PASSES;
+use presence::check_rebuild;
 use relink::{clear_vacant_rows, relink};
-use rules::{Header, Numbered};
+use rules::{Handed, Header};
 
 // One presence byte a slot says how many slots there are and which are live. The old header is not looked at: it comes
 // back if the call is refused.
-pub fn rebuild(links: &mut [u32], rows: &mut [u32], header: Header, presence: &[u8]) -> Numbered
-    ensures { numbered result links.new rows.new ≡ rebuild_rule links.old rows.old header presence.now }
+#[tactic(auto, unfolding(rules::specs::Rebuild::rebuild_rule), using(rules::proofs::Outcomes::outcomes, rules::proofs::Rebuild::rebuild_passed))]
+pub fn rebuild(links: &mut [u32], rows: &mut [u32], header: Header, presence: &[u8]) -> Handed<()>
+    ensures { handed of_done result links.new rows.new ≡ rebuild_rule links.old rows.old header presence.now }
 {
-    let number = rebuild_number(links, rows, presence);
-    if number != PASSES {
-        return Numbered { number, header };
+    if let Err(refusal) = check_rebuild(links, rows, presence) {
+        return Handed::refused(refusal, header);
     }
     let n = presence.len() as u32;
     clear_vacant_rows(links, rows, n);
-    Numbered {
-        number: PASSES,
+    Handed {
+        answer: Ok(()),
         header: relink(links, n),
     }
 }

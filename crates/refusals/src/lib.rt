@@ -1,121 +1,141 @@
-// The chains of refusals, segment by segment, as in rules/specs/Refusals.
+// The chains of refusals, segment by segment, as in rules/specs/Refusals: the first test that holds refuses. A segment that a rule gives the
+// number so far stands here by itself, since its caller has gone with the refusal where there was one.
 #![tactic(auto)]
 
 ghost use Rattle.std.specs.Prelude.{◌≡◌};
-ghost use Rattle.rules.specs.Choice.{both};
-ghost use Rattle.rules.specs.Refusals.{◌▸◌, damaged, astray, lent_number, header_number, shape_number, side_number, zero_number, live_key, live_number, entry_number, side_entry_number};
+ghost use Rattle.rules.specs.Refusals.{astray, passes, number_in, lent_number, header_number, shape_number, side_number, zero_number, live_key, live_number, entry_number, side_entry_number};
 ghost use Rattle.rules.specs.Access.{key_number};
 
-use rules::{DAMAGED, EVEN_VERSION, Header, Key, LIMIT, LINK_WORDS, NOT_LIVE, ROW_WORDS, SHAPE};
-use slots::choice::{both, one_below};
+use rules::{Header, Key, LIMIT, LINK_WORDS, ROW_WORDS, Refusal};
 use slots::words::{vacant, version};
 
-// What a chain starts with: no number.
-pub const PASSES: u32 = 0;
-
-// One more test of a chain.
-pub fn or_if(n: u32, test: bool, number: u32) -> u32
-    ensures { result ≡ n ▸ (test, number) }
-{
-    if n != PASSES {
-        return n;
-    }
-    if test { number } else { PASSES }
-}
-
-// One more test of a chain, about a link that the case at hand follows or does not: it leads to slot i.
-pub fn or_astray(n: u32, follows: bool, links: &[u32], used: u32, i: u32) -> u32
-    ensures { result ≡ n ▸ (both follows (astray links.now used i), damaged) }
-{
-    or_if(n, both(follows, !vacant(links, used, i)), DAMAGED)
-}
-
 // The lent tables alone, by their lengths.
-pub fn lent_number(links: usize, rows: usize) -> u32
-    ensures { result ≡ lent_number links rows }
+#[tactic(auto, unfolding(rules::specs::Refusals::lent_number), using(rules::proofs::Chain::chain))]
+pub fn check_lent(links: usize, rows: usize) -> Result<(), Refusal>
+    ensures { number_in result ≡ lent_number links rows }
 {
-    let n = or_if(PASSES, links % LINK_WORDS != 0, SHAPE);
-    let n = or_if(n, rows % ROW_WORDS != 0, SHAPE);
-    let n = or_if(n, links / LINK_WORDS != rows / ROW_WORDS, SHAPE);
-    let n = or_if(n, links / LINK_WORDS == 0, SHAPE);
-    or_if(n, LIMIT < links / LINK_WORDS, SHAPE)
+    let lent = links / LINK_WORDS;
+    if links % LINK_WORDS != 0 || rows % ROW_WORDS != 0 || lent != rows / ROW_WORDS {
+        return Err(Refusal::Shape);
+    }
+    if lent == 0 || LIMIT < lent {
+        return Err(Refusal::Shape);
+    }
+    Ok(())
 }
 
 // The header, beside the lent count.
-fn header_number(n: u32, lent: usize, header: Header) -> u32
-    ensures { result ≡ header_number n lent header }
+#[tactic(auto, unfolding(rules::specs::Refusals::header_number), using(rules::proofs::Chain::chain))]
+fn check_header(lent: usize, header: Header) -> Result<(), Refusal>
+    ensures { number_in result ≡ header_number passes lent header }
 {
-    let used = header.used;
-    let most = one_below(used);
-    let n = or_if(n, used == 0, SHAPE);
-    let n = or_if(n, lent < used as usize, SHAPE);
-    or_if(n, most < header.live, SHAPE)
+    if header.used == 0 || lent < header.used as usize || header.used - 1 < header.live {
+        return Err(Refusal::Shape);
+    }
+    Ok(())
 }
 
-pub fn shape_number(links: &[u32], rows: &[u32], header: Header) -> u32
-    ensures { result ≡ shape_number links.now rows.now header }
+// What is lent, and the header.
+#[tactic(auto, unfolding(rules::specs::Refusals::shape_number, rules::specs::Refusals::header_number), using(rules::proofs::Chain::chain))]
+pub fn check_shape(links: &[u32], rows: &[u32], header: Header) -> Result<(), Refusal>
+    ensures { number_in result ≡ shape_number links.now rows.now header }
 {
-    let n = lent_number(links.len(), rows.len());
-    header_number(n, links.len() / LINK_WORDS, header)
+    check_lent(links.len(), rows.len())?;
+    check_header(links.len() / LINK_WORDS, header)
 }
 
 // A side buffer's length, beside the one that is asked for.
-fn side_number(n: u32, side: usize, asked: usize) -> u32
-    ensures { result ≡ side_number n side asked }
+#[tactic(auto, unfolding(rules::specs::Refusals::side_number), using(rules::proofs::Chain::chain))]
+fn check_side(side: usize, asked: usize) -> Result<(), Refusal>
+    ensures { number_in result ≡ side_number passes side asked }
 {
-    or_if(n, side != asked, SHAPE)
+    if side != asked {
+        return Err(Refusal::Shape);
+    }
+    Ok(())
 }
 
-fn zero_number(n: u32, links: &[u32], header: Header) -> u32
-    ensures { result ≡ zero_number n links.now header }
+// Slot 0 is vacant.
+#[tactic(auto, unfolding(rules::specs::Refusals::zero_number), using(rules::proofs::Chain::chain))]
+fn check_zero(links: &[u32], header: Header) -> Result<(), Refusal>
+    ensures { number_in result ≡ zero_number passes links.now header }
 {
-    or_if(n, version(links, header.used, 0) % 2 == 1, DAMAGED)
+    if version(links, header.used, 0) % 2 == 1 {
+        return Err(Refusal::Damaged);
+    }
+    Ok(())
 }
 
-pub fn entry_number(links: &[u32], rows: &[u32], header: Header) -> u32
-    ensures { result ≡ entry_number links.now rows.now header }
+// What a call without a side buffer tests before anything else.
+#[tactic(auto, unfolding(rules::specs::Refusals::entry_number, rules::specs::Refusals::zero_number), using(rules::proofs::Chain::chain))]
+pub fn check_entry(links: &[u32], rows: &[u32], header: Header) -> Result<(), Refusal>
+    ensures { number_in result ≡ entry_number links.now rows.now header }
 {
-    zero_number(shape_number(links, rows, header), links, header)
+    check_shape(links, rows, header)?;
+    check_zero(links, header)
 }
 
-pub fn side_entry_number(
+// What a call with a side buffer tests before anything else.
+#[tactic(auto, unfolding(rules::specs::Refusals::side_entry_number, rules::specs::Refusals::zero_number, rules::specs::Refusals::side_number), using(rules::proofs::Chain::chain))]
+pub fn check_side_entry(
     links: &[u32],
     rows: &[u32],
     header: Header,
     side: usize,
     asked: usize,
-) -> u32
-    ensures { result ≡ side_entry_number links.now rows.now header side asked }
+) -> Result<(), Refusal>
+    ensures { number_in result ≡ side_entry_number links.now rows.now header side asked }
 {
-    zero_number(
-        side_number(shape_number(links, rows, header), side, asked),
-        links,
-        header,
-    )
+    check_shape(links, rows, header)?;
+    check_side(side, asked)?;
+    check_zero(links, header)
 }
 
-fn live_key(links: &[u32], header: Header, key: Key) -> bool
+// A link that a case follows goes astray: it is not below used, or its slot is not vacant.
+pub fn astray(links: &[u32], used: u32, i: u32) -> bool
+    ensures { result ≡ astray links.now used i }
+{
+    !vacant(links, used, i)
+}
+
+#[tactic(auto, unfolding(rules::specs::Refusals::live_key))]
+fn is_live(links: &[u32], header: Header, key: Key) -> bool
     ensures { result ≡ live_key links.now header key }
 {
-    let used = header.used;
-    let index = key.index;
-    let held = both(
-        key.version % 2 == 1,
-        version(links, used, index) == key.version,
-    );
-    both(index < used, held)
+    key.index < header.used
+        && key.version % 2 == 1
+        && version(links, header.used, key.index) == key.version
 }
 
-pub fn live_number(n: u32, links: &[u32], header: Header, key: Key) -> u32
-    ensures { result ≡ live_number n links.now header key }
+// The key is live.
+#[tactic(auto, unfolding(rules::specs::Refusals::live_number), using(rules::proofs::Chain::chain))]
+pub fn check_live(links: &[u32], header: Header, key: Key) -> Result<(), Refusal>
+    ensures { number_in result ≡ live_number passes links.now header key }
 {
-    let n = or_if(n, key.version % 2 == 0, EVEN_VERSION);
-    or_if(n, !live_key(links, header, key), NOT_LIVE)
+    if key.version % 2 == 0 {
+        return Err(Refusal::EvenVersion);
+    }
+    if !is_live(links, header, key) {
+        return Err(Refusal::NotLive);
+    }
+    Ok(())
+}
+
+// What a call on a key tests before anything else.
+#[tactic(auto, unfolding(rules::specs::Access::key_number, rules::specs::Refusals::live_number), using(rules::proofs::Chain::chain))]
+pub fn check_key(links: &[u32], rows: &[u32], header: Header, key: Key) -> Result<(), Refusal>
+    ensures { number_in result ≡ key_number links.now rows.now header key }
+{
+    check_entry(links, rows, header)?;
+    check_live(links, header, key)
 }
 
 // Key number: 0 for a live key, else the number that it is turned down with.
 pub fn key_number(links: &[u32], rows: &[u32], header: Header, key: Key) -> u32
     ensures { result ≡ key_number links.now rows.now header key }
 {
-    live_number(entry_number(links, rows, header), links, header, key)
+    match check_key(links, rows, header, key) {
+        Ok(()) => 0,
+        Err(refusal) => u32::from(refusal),
+    }
 }

@@ -17,12 +17,11 @@ fn clear_if_vacant(links: &[u32], rows: &mut [u32], n: u32, i: u32)
 }
 
 // The rows of the vacant slots below n.
+#[tactic(auto, unfolding(rules::specs::Rebuild::cleared_rows))]
 pub fn clear_vacant_rows(links: &[u32], rows: &mut [u32], n: u32)
     ensures { rows.new ≡ cleared_rows links.now n n rows.old }
 {
-    let mut i = 0;
-    while i < n {
+    for i in 0..n {
         clear_if_vacant(links, rows, n, i);
-        i += 1;
     }
 }

@@ -8,24 +8,24 @@ use slots::headers::rebuilt;
 use slots::words::{set_next, set_other_end, set_prev, zero_links};
 
 // The front of the run at hand, and that of the last run chained.
-#[derive(Drop)]
+#[derive(Clone, Copy)]
 struct Fronts {
     front: u32,
     last: u32,
 }
 
 // Next, prev and other_end become zero in the slots below n.
+#[tactic(auto, unfolding(rules::specs::Rebuild::unlinked))]
 fn unlink(links: &mut [u32], n: u32)
     ensures { links.new ≡ unlinked n links.old }
 {
-    let mut i = 0;
-    while i < n {
+    for i in 0..n {
         zero_links(links, i);
-        i += 1;
     }
 }
 
 // The run from f to b comes after the run whose front is p, the last so far.
+#[tactic(auto, unfolding(rules::specs::Rebuild::chain_run))]
 fn chain_run(links: &mut [u32], p: u32, f: u32, b: u32)
     ensures { links.new ≡ chain_run links.old p f b }
 {
@@ -37,34 +37,32 @@ fn chain_run(links: &mut [u32], p: u32, f: u32, b: u32)
 }
 
 // A front is kept in mind, and at a back its run is chained.
+#[tactic(auto, unfolding(rules::specs::Rebuild::chain_slot))]
 fn chain_slot(links: &mut [u32], n: u32, i: u32, at: Fronts) -> Fronts
     ensures { record { links = links.new; front = result.front; last = result.last } ≡ chain_slot n i (record { links = links.old; front = at.front; last = at.last }) }
 {
     let front = if is_front(links, n, i) { i } else { at.front };
     if !is_back(links, n, i) {
-        return Fronts {
-            front,
-            last: at.last,
-        };
+        return Fronts { front, ..at };
     }
     chain_run(links, at.last, front, i);
     Fronts { front, last: front }
 }
 
 // The runs in rising order, and prev(0) their last, which hop.rs leaves out.
+#[tactic(auto, unfolding(rules::specs::Rebuild::chain_slots))]
 fn chain_slots(links: &mut [u32], n: u32)
     ensures { links.new ≡ closed (chain_slots n n (record { links = links.old; front = 0; last = 0 })) }
 {
     let mut at = Fronts { front: 0, last: 0 };
-    let mut i = 0;
-    while i < n {
+    for i in 0..n {
         at = chain_slot(links, n, i, at);
-        i += 1;
     }
     set_prev(links, 0, at.last);
 }
 
 // The links made anew, and the header that goes with them. The odd versions are counted before anything is written.
+#[tactic(auto, unfolding(rules::specs::Rebuild::relinked))]
 pub fn relink(links: &mut [u32], n: u32) -> Header
     ensures { record { links = links.new; header = result } ≡ relinked links.old n }
 {

@@ -3,16 +3,14 @@
 #![tactic(auto)]
 
 ghost use Rattle.std.specs.Prelude.{◌≡◌, ◌<◌};
-ghost use Rattle.rules.specs.Words.{zero_row};
-ghost use Rattle.rules.specs.Values.{removed};
+ghost use Rattle.rules.specs.Values.{of_key, handed_row};
 ghost use Rattle.rules.specs.Remove.{beside, remove_step, remove_slot, remove_at, remove_rule};
 
 use chain::free;
-use followed::remove_number;
-use refusals::{PASSES, key_number};
+use followed::check_remove;
+use refusals::check_key;
 use rules::steps::Beside;
-use rules::{DAMAGED, Header, Key, KeyAnswer, ROW_WORDS, Removed};
-use slots::choice::one_below;
+use rules::{HandedRow, Header, Key, Refusal};
 use slots::headers::one_less;
 use slots::rows::{clear_row, row};
 use slots::words::{occupied, set_version, vacant, version};
@@ -22,64 +20,58 @@ fn beside(links: &[u32], used: u32, i: u32) -> Beside
     requires { i < used }
     ensures { result ≡ beside links.now used i }
 {
-    let left = one_below(i);
+    let left = i.saturating_sub(1);
     let right = i + 1;
-    let before = vacant(links, used, left);
-    let after = vacant(links, used, right);
     Beside {
         left,
         right,
-        before,
-        after,
+        before: vacant(links, used, left),
+        after: vacant(links, used, right),
     }
 }
 
-fn refused(header: Header, number: u32) -> Removed
-    ensures { result ≡ record { answer = KeyAnswer.Refused number; row = zero_row; header = header } }
+#[tactic(auto, unfolding(rules::specs::Remove::remove_step))]
+fn remove_step(
+    links: &mut [u32],
+    rows: &mut [u32],
+    header: Header,
+    key: Key,
+    x: Beside,
+) -> HandedRow<Key>
+    ensures { handed_row of_key result links.new rows.new ≡ remove_step links.old rows.old header key x }
 {
-    Removed {
-        answer: KeyAnswer::Refused(number),
-        row: [0u32; ROW_WORDS],
-        header,
-    }
-}
-
-fn remove_step(links: &mut [u32], rows: &mut [u32], header: Header, key: Key, x: Beside) -> Removed
-    ensures { removed result links.new rows.new ≡ remove_step links.old rows.old header key x }
-{
-    let index = key.index;
-    let used = header.used;
-    let risen = std::num::wrapping_add_u32(version(links, used, index), 1);
-    free(links, used, index, x);
-    set_version(links, index, risen);
-    let words = row(rows, used, index);
-    clear_row(rows, index);
-    Removed {
-        answer: KeyAnswer::Keyed(key),
+    let risen = version(links, header.used, key.index).wrapping_add(1);
+    free(links, header.used, key.index, x);
+    set_version(links, key.index, risen);
+    let words = row(rows, header.used, key.index);
+    clear_row(rows, key.index);
+    HandedRow {
+        answer: Ok(key),
         row: words,
         header: one_less(header),
     }
 }
 
 // The removal of an occupied slot that is in use, under its key.
-fn remove_slot(links: &mut [u32], rows: &mut [u32], header: Header, key: Key) -> Removed
+#[tactic(auto, unfolding(rules::specs::Remove::remove_slot, rules::specs::Remove::remove_by), using(rules::proofs::Outcomes::outcomes))]
+fn remove_slot(links: &mut [u32], rows: &mut [u32], header: Header, key: Key) -> HandedRow<Key>
     requires { key.index < header.used }
-    ensures { removed result links.new rows.new ≡ remove_slot links.old rows.old header key }
+    ensures { handed_row of_key result links.new rows.new ≡ remove_slot links.old rows.old header key }
 {
     let x = beside(links, header.used, key.index);
-    let damage = remove_number(links, header, x);
-    if damage != PASSES {
-        return refused(header, damage);
+    if let Err(refusal) = check_remove(links, header, x) {
+        return HandedRow::refused(refusal, header);
     }
     remove_step(links, rows, header, key, x)
 }
 
 // The removal of slot q under the key that it has, in a table of the right shape: for callers that go by slots.
-pub fn remove_at(links: &mut [u32], rows: &mut [u32], header: Header, q: u32) -> Removed
-    ensures { removed result links.new rows.new ≡ remove_at links.old rows.old header q }
+#[tactic(auto, using(rules::proofs::RemoveSteps::removes, rules::proofs::Links::in_use))]
+pub fn remove_at(links: &mut [u32], rows: &mut [u32], header: Header, q: u32) -> HandedRow<Key>
+    ensures { handed_row of_key result links.new rows.new ≡ remove_at links.old rows.old header q }
 {
     if !occupied(links, header.used, q) {
-        return refused(header, DAMAGED);
+        return HandedRow::refused(Refusal::Damaged, header);
     }
     let key = Key {
         index: q,
@@ -89,12 +81,12 @@ pub fn remove_at(links: &mut [u32], rows: &mut [u32], header: Header, q: u32) ->
 }
 
 // Takes the row of a live key out and hands it back.
-pub fn remove(links: &mut [u32], rows: &mut [u32], header: Header, key: Key) -> Removed
-    ensures { removed result links.new rows.new ≡ remove_rule links.old rows.old header key }
+#[tactic(auto, unfolding(rules::specs::Remove::remove_rule), using(rules::proofs::Outcomes::outcomes, rules::proofs::Access::live_within))]
+pub fn remove(links: &mut [u32], rows: &mut [u32], header: Header, key: Key) -> HandedRow<Key>
+    ensures { handed_row of_key result links.new rows.new ≡ remove_rule links.old rows.old header key }
 {
-    let number = key_number(links, rows, header, key);
-    if number != PASSES {
-        return refused(header, number);
+    if let Err(refusal) = check_key(links, rows, header, key) {
+        return HandedRow::refused(refusal, header);
     }
     remove_slot(links, rows, header, key)
 }

@@ -4,142 +4,104 @@
 
 mod calling;
 mod language;
-mod settings;
-mod telling;
+mod line;
+mod numbers;
+mod outcome;
+mod table;
 mod words;
 
-ghost use Rattle.std.specs.Prelude.{◌≤◌, length};
+ghost use Rattle.std.specs.Prelude.{◌≤◌, length, IfOk};
 
-use calling::called;
-use flat::Answer;
-use hop::Header;
-use language::{NUMBERS, SHOW, command_of, find, read_numbers};
-use settings::{State, after, set};
+use language::Command;
+use line::Line;
+use numbers::Numbers;
+use std::fmt;
+use std::fmt::Write;
 use std::io::Read;
-use telling::tell;
-use words::least;
+use table::Table;
 
-// The words of both tables, one slot more than may be lent; the bytes of the whole list and of one answered line.
-const LINKS: usize = 16388;
-
-pub(crate) const ROWS: usize = 32776;
-
+// The bytes of the whole list.
 const LIST: usize = 1048576;
 
-const LINE: usize = 65536;
-
-// Settings reach the whole tables, calls what is lent of them.
-fn answered(
-    links: &mut [u32],
-    rows: &mut [u32],
-    state: State,
-    command: u32,
-    numbers: &[u32],
-) -> Answer {
-    if command < SHOW {
-        return flat::of_number(0, set(links, rows, state.header, command, numbers));
-    }
-    let a = least(state.links, links.len());
-    let b = least(state.rows, rows.len());
-    called(
-        &mut links[0..a],
-        &mut rows[0..b],
-        state.header,
-        command,
-        numbers,
-    )
+// Why nothing is replayed, or not all.
+#[derive(Clone, Copy, Debug, PartialEq, Eq)]
+enum Failure {
+    Reading,
+    TooLong,
+    Writing,
 }
 
-// The line with its answer; answers whether it was written. What fails is said here.
-fn write_line<'a>(
-    rt: &(impl Print + Eprint),
-    out: &mut [u8],
-    line: &[u8],
-    links: &'a [u32],
-    rows: &'a [u32],
-    command: u32,
-    x: Answer,
-) -> bool {
-    let end = tell(out, line, links, rows, command, x);
-    let well = rt.write_all(&out[0..end]).is_ok();
-    if !well {
-        let _ = rt.eprintln("replay: writing standard output failed; the answers are cut short");
+impl fmt::Display for Failure {
+    fn fmt<W: fmt::Write>(&self, f: &mut fmt::Formatter<W>) -> fmt::Result {
+        f.write_str(match self {
+            Failure::Reading => "replay: reading standard input failed; nothing was replayed",
+            Failure::TooLong => {
+                "replay: the list is longer than the program can hold; nothing was replayed"
+            }
+            Failure::Writing => {
+                "replay: writing standard output failed; the answers are cut short"
+            }
+        })
     }
-    well
 }
 
-// One line: copied, answered, written.
-fn replay_line(
-    rt: &(impl Print + Eprint),
-    links: &mut [u32],
-    rows: &mut [u32],
-    out: &mut [u8],
-    line: &[u8],
-    state: State,
-) -> State {
-    let command = command_of(line);
-    let mut numbers = [0u32; NUMBERS];
-    let count = read_numbers(line, &mut numbers);
-    let x = answered(links, rows, state, command, &numbers[0..count]);
-    let header = x.header;
-    let well = write_line(rt, out, line, links, rows, command, x);
-    after(state, command, &numbers[0..count], header, well)
+// Comments and settings have no answer.
+fn answer(table: &mut Table, out: &mut Line, line: &[u8]) {
+    let numbers = Numbers::from(line);
+    match Command::from(line) {
+        Command::Comment => {}
+        Command::Setting(setting) => table.set(setting, &numbers),
+        Command::Call(call) => {
+            let told = table.call(call, &numbers);
+            let _ = write!(out, " => {told}");
+        }
+        Command::Show => {
+            let _ = write!(out, " => {}", *table);
+        }
+        Command::Unknown => {
+            out.put(b" => ");
+            out.put(b"not understood");
+        }
+    }
 }
 
 // Line by line. The last one may lack its newline.
-fn replay(
-    rt: &(impl Print + Eprint),
-    links: &mut [u32],
-    rows: &mut [u32],
-    out: &mut [u8],
-    list: &[u8],
-) {
-    let mut state = State {
-        links: 0,
-        rows: 0,
-        header: Header { used: 0, live: 0 },
-        well: true,
-    };
-    let mut at = 0;
-    while at < list.len() && state.well {
-        let end = find(list, at, b'\n');
-        state = replay_line(rt, links, rows, out, &list[at..end], state);
-        at = end + 1;
+fn replay(rt: &impl Print, table: &mut Table, out: &mut Line, list: &[u8]) -> Result<(), Failure> {
+    for part in list.split_inclusive(|byte| *byte == b'\n') {
+        let line = part.strip_suffix(b"\n").unwrap_or(part);
+        out.clear();
+        out.put(line);
+        answer(table, out, line);
+        out.put(b"\n");
+        rt.write_all(out.as_bytes()).map_err(|_| Failure::Writing)?;
     }
+    Ok(())
 }
 
-// The whole list; answers how many bytes it has. A list that cannot be read whole counts as empty.
-fn read_list(input: &mut impl Read, rt: &impl Eprint, list: &mut [u8]) -> usize
-    ensures { result ≤ length list.old }
+// The whole list; answers how many bytes it has.
+fn read_list(input: &mut impl Read, list: &mut [u8]) -> Result<usize, Failure>
+    ensures { IfOk result (λ count. count ≤ length list.old) }
 {
     let mut end = 0;
     while end < list.len() {
         match input.read(&mut list[end..]) {
-            Ok(0) => return end,
+            Ok(0) => return Ok(end),
             Ok(more) => end += more,
-            Err(_) => {
-                let _ = rt.eprintln("replay: reading standard input failed; nothing was replayed");
-                return 0;
-            }
+            Err(_) => return Err(Failure::Reading),
         }
     }
-    let _ = rt.eprintln(
-        "replay: the list is longer than the program can hold; nothing was replayed",
-    );
-    0
+    Err(Failure::TooLong)
 }
 
 // The list's room comes in from outside: its length is then known without a count of its zeros.
-fn run(rt: HostRuntime, room: [u8; LIST]) {
-    let mut links = [0u32; LINKS];
-    let mut rows = [0u32; ROWS];
-    let mut out = [0u8; LINE];
-    let mut list = room;
-    let n = read_list(&mut rt.stdin(), &rt, &mut list);
-    replay(&rt, &mut links, &mut rows, &mut out, &list[0..n]);
+fn run(rt: &impl Print, input: &mut impl Read, mut room: [u8; LIST]) -> Result<(), Failure> {
+    let count = read_list(input, &mut room)?;
+    replay(rt, &mut Table::new(), &mut Line::new(), &room[..count])
 }
 
 // The room is so large that a program has it once only.
 fn main(rt: HostRuntime) {
-    run(rt, [0; LIST]);
+    if let Err(failure) = run(&rt, &mut rt.stdin(), [0; LIST]) {
+        let _ = rt.eprintln(failure);
+    }
 }

@@ -26,15 +26,11 @@ pub all_missed : (t : ℕ → Bool) (n i : ℕ) → i < n → t i ≡ false → 
 unfolding all_below
 all_missed t n i h e = past (λ (k : ℕ). all_below k t ≡ false) i (both_if (all_below i t) (t i) (λ _. e)) (λ k so. rw so) n h
 
--- some so far, or the next one; what holds of one number below holds of some
-pub some_next : (n : ℕ) (t : ℕ → Bool) → some_below (n + 1) t ≡ either (some_below n t) (t n)
-unfolding some_below
-some_next n t = rw add-one
-
 either_last : (a b : Bool) → b ≡ true → either a b ≡ true
 either_last true b e = refl
 either_last false b e = e
 
+-- what holds of one number below holds of some
 pub some_found : (t : ℕ → Bool) (n i : ℕ) → i < n → t i ≡ true → some_below n t ≡ true
 unfolding some_below
 some_found t n i h e = past (λ (k : ℕ). some_below k t ≡ true) i (either_last (some_below i t) (t i) e) (λ k so. rw so) n h

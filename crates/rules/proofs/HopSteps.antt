@@ -1,11 +1,11 @@
 -- The hop step by document 01's sentences: at or past used; at an occupied slot; inside a run; over the run of a vacant one.
 -- Assumes nothing.
-use Prim.Native.Nat.{ℕ, ◌+◌, ◌-◌, ◌≤◌}
+use Prim.Native.Nat.{ℕ, ◌+◌, ◌-◌, ◌≤◌, ◌<◌}
 use mathlib.Core.List.{List}
 use mathlib.Core.Bool.{Bool, true, false, not}
 use mathlib.Core.Path.{◌≡◌, refl, ap}
 use lib.Dec.{ltb, eqb}
-use borrow.Author.Tests.{le-leb, lt-leb, le-ltb}
+use borrow.Author.Tests.{le-leb, lt-leb, le-ltb, lt-ltb}
 use Rattle.rules.specs.Choice.{pick, both, either}
 use Rattle.rules.specs.Words.{version_at, other_end_at, vacant_at, occupied_at}
 use Rattle.rules.specs.Values.{Values, answer_unless, done, refused}
@@ -55,3 +55,17 @@ module _ (l : List ℕ) (hd : Header) (c : ℕ) where
       let v = vacant l hd.used c e in
       simp (← b, p, e, f, le-ltb back c h, not_occupied l hd.used c v, lt-leb hd.used c v.below)
       (last_test (eqb (back + 1) hd.used) (occupied_at l hd.used (back + 1)) (visit l hd.used (back + 1)))
+
+  -- its back goes astray, or stands before it
+  pub astray_back : (back : ℕ) → back ≡ other_end_at l hd.used c → vacant_at l hd.used c ≡ true → past_front (version_at l hd.used) hd.used c ≡ false →
+      vacant_at l hd.used back ≡ false → refused damaged ≡ hop_from l hd c
+  unfolding hop_from hop_number ◌▸◌
+  astray_back back b e p f = simp (← b, p, e, f)
+
+  pub before_cursor : (back : ℕ) → back ≡ other_end_at l hd.used c → vacant_at l hd.used c ≡ true → past_front (version_at l hd.used) hd.used c ≡ false →
+      vacant_at l hd.used back ≡ true → back < c → refused damaged ≡ hop_from l hd c
+  unfolding hop_from hop_number ◌▸◌
+  before_cursor back b e p f h = simp (← b, p, e, f, lt-ltb back c h)
+
+-- what the code of the hop step needs
+pub ruleset hops = (at_end, at_occupied, inside_run, over_run, astray_back, before_cursor)

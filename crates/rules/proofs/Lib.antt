@@ -4,6 +4,7 @@
 pub mod Choice
 pub mod Below
 pub mod Refusals
+pub mod Chain
 pub mod Given
 pub mod Headers
 -- What the tests tell where they passed: shape, a slot, the links that are followed; full; rebuild's; and a call that answers by a number.

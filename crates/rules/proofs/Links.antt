@@ -63,6 +63,18 @@ unfolding vacant_at occupied_at
 past_used l used i h =
     (vacant_no (version_at l used) used i (λ q. absurd (omega arith)), occupied_no (version_at l used) used i (λ q. absurd (omega arith)))
 
+pub below_occupied : (l : List ℕ) (used i : ℕ) → occupied_at l used i ≡ true → i < used
+below_occupied l used i e = (occupied l used i e).below
+
+pub below_vacant : (l : List ℕ) (used i : ℕ) → vacant_at l used i ≡ true → i < used
+below_vacant l used i e = (vacant l used i e).below
+
+pub vacant_else : (l : List ℕ) (used i : ℕ) → i < used → occupied_at l used i ≡ false → vacant_at l used i ≡ true
+vacant_else l used i h e = (else_vacant l used i h e).test
+
+-- what code knows of a slot that it has tested
+pub ruleset in_use = (below_occupied, below_vacant, vacant_else)
+
 -- a link that did not go astray
 pub followed : (l : List ℕ) (used i : ℕ) → astray l used i ≡ false → Vacant l used i
 followed l used i e = vacant l used i (not-false _ e)

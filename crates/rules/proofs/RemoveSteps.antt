@@ -22,3 +22,6 @@ module _ (l r : List ℕ) (hd : Header) (q : ℕ) where
 
   pub refused_past_used : hd.used ≤ q → remove_at l r hd q ≡ refusal l r hd damaged
   refused_past_used h = refused_slot (past_used l hd.used q h).1
+
+-- what the code of a removal by slot needs
+pub ruleset removes = (refused_slot, removed_slot, refused_past_used)

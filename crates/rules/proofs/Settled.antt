@@ -3,13 +3,13 @@
 -- stay as they were: no promise needs to say it. Assumes nothing.
 use Prim.Native.Nat.{ℕ}
 use mathlib.Core.List.{List}
-use mathlib.Core.Bool.{Bool}
 use mathlib.Core.Path.{◌≡◌, refl, sym, ap, ◌∙◌}
 use denote.Ref.{Bor}
+use Rattle.std.specs.Prelude.{Result, Ok, Err, ⊤}
 use lib.Dec.{eqb}
-use borrow.Author.Tests.{eqb-true}
 use Rattle.rules.specs.Choice.{pick}
-use Rattle.rules.specs.Values.{Kind, gives, ends, refuses, Values, of_key, of_hop, of_drain, of_clear, of_count, of_number, done, refused, Outcome, plain, numbered, inserted, removed, shown, hopped, drained, cleared, retained, roomed}
+use Rattle.rules.specs.Values.{Kind, gives, ends, refuses, Values, zero_key, keyed, counted, done, answered, found_by_hop, found_by_drain, of_key, of_hop, of_drain, of_done, of_count, Outcome, handed, handed_row}
+use Rattle.rules.specs.Refusals.{number_of, number_in}
 use Rattle.rules.specs.Start.{start_rule, room_rule}
 use Rattle.rules.specs.Access.{key_number, replace_rule, look_row_rule, RowPart}
 use Rattle.rules.specs.Insert.{insert_rule}
@@ -22,21 +22,11 @@ use Rattle.rules.specs.Retain.{retain_rule}
 use Rattle.rules.specs.Rebuild.{Relinked, relinked, cleared_rows, rebuild_rule}
 use Rattle.rules.specs.declared.Header.{Header}
 use Rattle.rules.specs.declared.Key.{Key}
-use Rattle.rules.specs.declared.KeyAnswer.{KeyAnswer}
+use Rattle.rules.specs.declared.Refusal.{Refusal}
 use Rattle.rules.specs.declared.HopAnswer.{HopAnswer}
 use Rattle.rules.specs.declared.DrainAnswer.{DrainAnswer}
-use Rattle.rules.specs.declared.ClearAnswer.{ClearAnswer}
-use Rattle.rules.specs.declared.CountAnswer.{CountAnswer}
-use Rattle.rules.specs.declared.Numbered.{Numbered}
-use Rattle.rules.specs.declared.Inserted.{Inserted}
-use Rattle.rules.specs.declared.Removed.{Removed}
-use Rattle.rules.specs.declared.Hopped.{Hopped}
-use Rattle.rules.specs.declared.Drained.{Drained}
-use Rattle.rules.specs.declared.Cleared.{Cleared}
-use Rattle.rules.specs.declared.Retained.{Retained}
-use Rattle.rules.specs.declared.Roomed.{Roomed}
-use Rattle.rules.specs.declared.steps.Shown.{Shown}
-use Rattle.rules.proofs.Choice.{by_test}
+use Rattle.rules.specs.declared.Handed.{Handed}
+use Rattle.rules.specs.declared.HandedRow.{HandedRow}
 
 -- a struct can be read back from the outcome that it stands for beside the tables
 pub record Readable (A : Type 0) (view : A → List ℕ → List ℕ → Outcome) : Type 0 where
@@ -58,27 +48,28 @@ settled view v o x y l m r s p q =
       sym (v.rows x l r) ∙ ap (λ (w : Outcome). w.rows) e ∙ v.rows y m s,
     )
 
--- a struct of an answer and a header, and one with a row between them
-module _ {A B : Type 0} (of : B → Values) (un : Values → B) (un-of : (b : B) → un (of b) ≡ b) (answer : A → B) (header : A → Header) where
-  with_header : (make : B → Header → A) → ((x : A) → make (answer x) (header x) ≡ x) →
-      Readable A (λ x l r. plain (of (answer x)) (header x) l r)
-  with_header make made =
-      record {
-        unview = λ o. make (un o.answer) o.header;
-        back = λ x l r. ap (λ b. make b (header x)) (un-of (answer x)) ∙ made x;
-        links = λ x l r. refl;
-        rows = λ x l r. refl;
-      }
+-- the refusal of a number, which tells it
+abbrev pub refusal_of : ℕ → Refusal
+refusal_of n =
+    pick (eqb n 1) Refusal.Shape
+    (pick (eqb n 2) Refusal.Damaged
+    (pick (eqb n 3) Refusal.EvenVersion
+    (pick (eqb n 4) Refusal.NotLive
+    (pick (eqb n 5) Refusal.Full
+    (pick (eqb n 6) Refusal.StaleCursor
+    (pick (eqb n 7) Refusal.WrongPresence
+    (pick (eqb n 8) Refusal.ZeroOccupied Refusal.BrokenStream)))))))
 
-  with_row : (row : A → List ℕ) (make : B → List ℕ → Header → A) → ((x : A) → make (answer x) (row x) (header x) ≡ x) →
-      Readable A (λ x l r. record { answer = of (answer x); row = row x; header = header x; links = l; rows = r })
-  with_row row make made =
-      record {
-        unview = λ o. make (un o.answer) o.row o.header;
-        back = λ x l r. ap (λ b. make b (row x) (header x)) (un-of (answer x)) ∙ made x;
-        links = λ x l r. refl;
-        rows = λ x l r. refl;
-      }
+pub refusal_back : (e : Refusal) → refusal_of (number_of e) ≡ e
+refusal_back Refusal.Shape = refl
+refusal_back Refusal.Damaged = refl
+refusal_back Refusal.EvenVersion = refl
+refusal_back Refusal.NotLive = refl
+refusal_back Refusal.Full = refl
+refusal_back Refusal.StaleCursor = refl
+refusal_back Refusal.WrongPresence = refl
+refusal_back Refusal.ZeroOccupied = refl
+refusal_back Refusal.BrokenStream = refl
 
 -- one of three, by the kind
 abbrev among : {A : Type 0} → Kind → A → A → A → A
@@ -86,134 +77,113 @@ among gives a b c = a
 among ends a b c = b
 among refuses a b c = c
 
-abbrev key_of : Values → KeyAnswer
-key_of v = among v.kind (KeyAnswer.Keyed v.key) (KeyAnswer.Refused 0) (KeyAnswer.Refused v.number)
+-- the answer that the values are of: what was given, what the end says, or the refusal
+abbrev read : {A : Type 0} → (Values → A) → A → Values → Result A Refusal
+read given ended v = among v.kind (Ok (given v)) (Ok ended) (Err (refusal_of v.number))
 
-key_back : (a : KeyAnswer) → key_of (of_key a) ≡ a
-key_back (KeyAnswer.Keyed k) = refl
-key_back (KeyAnswer.Refused n) = refl
+-- values that tell their answer
+abbrev Told : {A : Type 0} → (Result A Refusal → Values) → Type 0
+Told {A} of = (un : Values → Result A Refusal) × ((a : Result A Refusal) → un (of a) ≡ a)
 
-abbrev hop_of : Values → HopAnswer
-hop_of v = among v.kind (HopAnswer.Visited v.key v.cursor) HopAnswer.Done (HopAnswer.Refused v.number)
+module _ {A : Type 0} (give : A → Values) (given : Values → A) (ended : A) (back : (x : A) → read given ended (give x) ≡ Ok x) where
+  told_back : (a : Result A Refusal) → read given ended (answered give a) ≡ a
+  told_back (Ok x) = back x
+  told_back (Err e) = ap (λ (x : Refusal). Err x) (refusal_back e)
 
-hop_back : (a : HopAnswer) → hop_of (of_hop a) ≡ a
+  told : Told (answered give)
+  told = (read given ended, told_back)
+
+hop_back : (x : HopAnswer) → read (λ v. HopAnswer.Visited v.key v.cursor) HopAnswer.Done (found_by_hop x) ≡ Ok x
 hop_back (HopAnswer.Visited k c) = refl
 hop_back HopAnswer.Done = refl
-hop_back (HopAnswer.Refused n) = refl
 
-abbrev drain_of : Values → DrainAnswer
-drain_of v = among v.kind (DrainAnswer.Keyed v.key) DrainAnswer.Done (DrainAnswer.Refused v.number)
-
-drain_back : (a : DrainAnswer) → drain_of (of_drain a) ≡ a
+drain_back : (x : DrainAnswer) → read (λ v. DrainAnswer.Keyed v.key) DrainAnswer.Done (found_by_drain x) ≡ Ok x
 drain_back (DrainAnswer.Keyed k) = refl
 drain_back DrainAnswer.Done = refl
-drain_back (DrainAnswer.Refused n) = refl
 
-abbrev clear_of : Values → ClearAnswer
-clear_of v = among v.kind ClearAnswer.Done ClearAnswer.Done (ClearAnswer.Refused v.number)
+key_told : Told of_key
+key_told = told keyed (λ v. v.key) zero_key (λ _. refl)
 
-clear_back : (a : ClearAnswer) → clear_of (of_clear a) ≡ a
-clear_back ClearAnswer.Done = refl
-clear_back (ClearAnswer.Refused n) = refl
+count_told : Told of_count
+count_told = told counted (λ v. v.count) 0 (λ _. refl)
 
-abbrev count_of : Values → CountAnswer
-count_of v = among v.kind (CountAnswer.Counted v.count) (CountAnswer.Refused 0) (CountAnswer.Refused v.number)
+hop_told : Told of_hop
+hop_told = told found_by_hop (λ v. HopAnswer.Visited v.key v.cursor) HopAnswer.Done hop_back
 
-count_back : (a : CountAnswer) → count_of (of_count a) ≡ a
-count_back (CountAnswer.Counted n) = refl
-count_back (CountAnswer.Refused n) = refl
+drain_told : Told of_drain
+drain_told = told found_by_drain (λ v. DrainAnswer.Keyed v.key) DrainAnswer.Done drain_back
 
-number_back : (n : ℕ) → (of_number n).number ≡ n
-number_back n =
-    by_test (λ (t : Bool). (pick t done (refused n)).number ≡ n) (eqb n 0) (λ z. sym (eqb-true n 0 z)) (λ _. refl)
+done_told : Told of_done
+done_told = told (λ _. done) (λ _. tt) tt (λ _. refl)
 
--- start, replace, rebuild, the soundness check
-pub numbered_readable : Readable Numbered numbered
-numbered_readable =
-    with_header of_number (λ v. v.number) number_back (λ x. x.number) (λ x. x.header)
-    (λ n hd. record { number = n; header = hd }) (λ x. refl)
+abbrev pub tests_of : ℕ → Result ⊤ Refusal
+tests_of n = pick (eqb n 0) (Ok tt) (Err (refusal_of n))
 
--- insert
-pub inserted_readable : Readable Inserted inserted
-inserted_readable =
-    with_header of_key key_of key_back (λ x. x.answer) (λ x. x.header)
-    (λ a hd. record { answer = a; header = hd }) (λ x. refl)
+pub tests_back : (x : Result ⊤ Refusal) → tests_of (number_in x) ≡ x
+tests_back (Ok x) = refl
+tests_back (Err Refusal.Shape) = refl
+tests_back (Err Refusal.Damaged) = refl
+tests_back (Err Refusal.EvenVersion) = refl
+tests_back (Err Refusal.NotLive) = refl
+tests_back (Err Refusal.Full) = refl
+tests_back (Err Refusal.StaleCursor) = refl
+tests_back (Err Refusal.WrongPresence) = refl
+tests_back (Err Refusal.ZeroOccupied) = refl
+tests_back (Err Refusal.BrokenStream) = refl
 
--- remove
-pub removed_readable : Readable Removed removed
-removed_readable =
-    with_row of_key key_of key_back (λ x. x.answer) (λ x. x.header) (λ x. x.row)
-    (λ a w hd. record { answer = a; row = w; header = hd }) (λ x. refl)
+-- what a call hands back, and with a row
+module _ {A : Type 0} (of : Result A Refusal → Values) (t : Told of) where
+  pub handed_readable : Readable (Handed A) (handed of)
+  handed_readable =
+      record {
+        unview = λ o. record { answer = t.0 o.answer; header = o.header };
+        back = λ x l r. ap (λ (a : Result A Refusal). record { answer = a; header = x.header }) (t.1 x.answer);
+        links = λ x l r. refl;
+        rows = λ x l r. refl;
+      }
 
--- a look by value
-pub shown_readable : Readable Shown shown
-shown_readable =
-    with_row of_key key_of key_back (λ x. x.answer) (λ x. x.header) (λ x. x.row)
-    (λ a w hd. record { answer = a; row = w; header = hd }) (λ x. refl)
-
--- the hop step
-pub hopped_readable : Readable Hopped hopped
-hopped_readable =
-    with_header of_hop hop_of hop_back (λ x. x.answer) (λ x. x.header)
-    (λ a hd. record { answer = a; header = hd }) (λ x. refl)
-
--- the drain step
-pub drained_readable : Readable Drained drained
-drained_readable =
-    with_row of_drain drain_of drain_back (λ x. x.answer) (λ x. x.header) (λ x. x.row)
-    (λ a w hd. record { answer = a; row = w; header = hd }) (λ x. refl)
-
--- clear
-pub cleared_readable : Readable Cleared cleared
-cleared_readable =
-    with_header of_clear clear_of clear_back (λ x. x.answer) (λ x. x.header)
-    (λ a hd. record { answer = a; header = hd }) (λ x. refl)
-
--- retain
-pub retained_readable : Readable Retained retained
-retained_readable =
-    with_header of_count count_of count_back (λ x. x.answer) (λ x. x.header)
-    (λ a hd. record { answer = a; header = hd }) (λ x. refl)
-
--- room
-pub roomed_readable : Readable Roomed roomed
-roomed_readable =
-    with_header of_count count_of count_back (λ x. x.answer) (λ x. x.header)
-    (λ a hd. record { answer = a; header = hd }) (λ x. refl)
+  pub handed_row_readable : Readable (HandedRow A) (handed_row of)
+  handed_row_readable =
+      record {
+        unview = λ o. record { answer = t.0 o.answer; row = o.row; header = o.header };
+        back = λ x l r. ap (λ (a : Result A Refusal). record { answer = a; row = x.row; header = x.header }) (t.1 x.answer);
+        links = λ x l r. refl;
+        rows = λ x l r. refl;
+      }
 
 -- call by call
-pub start_settled : (l r : List ℕ) (hd : Header) → OneOutcome numbered (start_rule l r hd)
-start_settled l r hd = settled numbered numbered_readable (start_rule l r hd)
+pub start_settled : (l r : List ℕ) (hd : Header) → OneOutcome (handed of_done) (start_rule l r hd)
+start_settled l r hd = settled (handed of_done) (handed_readable of_done done_told) (start_rule l r hd)
 
-pub room_settled : (l r : List ℕ) (hd : Header) → OneOutcome roomed (room_rule l r hd)
-room_settled l r hd = settled roomed roomed_readable (room_rule l r hd)
+pub room_settled : (l r : List ℕ) (hd : Header) → OneOutcome (handed of_count) (room_rule l r hd)
+room_settled l r hd = settled (handed of_count) (handed_readable of_count count_told) (room_rule l r hd)
 
-pub replace_settled : (l r : List ℕ) (hd : Header) (k : Key) (side : List ℕ) → OneOutcome numbered (replace_rule l r hd k side)
-replace_settled l r hd k side = settled numbered numbered_readable (replace_rule l r hd k side)
+pub replace_settled : (l r : List ℕ) (hd : Header) (k : Key) (side : List ℕ) → OneOutcome (handed of_done) (replace_rule l r hd k side)
+replace_settled l r hd k side = settled (handed of_done) (handed_readable of_done done_told) (replace_rule l r hd k side)
 
-pub insert_settled : (l r : List ℕ) (hd : Header) (side : List ℕ) → OneOutcome inserted (insert_rule l r hd side)
-insert_settled l r hd side = settled inserted inserted_readable (insert_rule l r hd side)
+pub insert_settled : (l r : List ℕ) (hd : Header) (side : List ℕ) → OneOutcome (handed of_key) (insert_rule l r hd side)
+insert_settled l r hd side = settled (handed of_key) (handed_readable of_key key_told) (insert_rule l r hd side)
 
-pub remove_settled : (l r : List ℕ) (hd : Header) (k : Key) → OneOutcome removed (remove_rule l r hd k)
-remove_settled l r hd k = settled removed removed_readable (remove_rule l r hd k)
+pub remove_settled : (l r : List ℕ) (hd : Header) (k : Key) → OneOutcome (handed_row of_key) (remove_rule l r hd k)
+remove_settled l r hd k = settled (handed_row of_key) (handed_row_readable of_key key_told) (remove_rule l r hd k)
 
-pub hop_settled : (l r : List ℕ) (hd : Header) (c : ℕ) → OneOutcome hopped (hop_rule l r hd c)
-hop_settled l r hd c = settled hopped hopped_readable (hop_rule l r hd c)
+pub hop_settled : (l r : List ℕ) (hd : Header) (c : ℕ) → OneOutcome (handed of_hop) (hop_rule l r hd c)
+hop_settled l r hd c = settled (handed of_hop) (handed_readable of_hop hop_told) (hop_rule l r hd c)
 
-pub drain_settled : (l r : List ℕ) (hd : Header) → OneOutcome drained (drain_rule l r hd)
-drain_settled l r hd = settled drained drained_readable (drain_rule l r hd)
+pub drain_settled : (l r : List ℕ) (hd : Header) → OneOutcome (handed_row of_drain) (drain_rule l r hd)
+drain_settled l r hd = settled (handed_row of_drain) (handed_row_readable of_drain drain_told) (drain_rule l r hd)
 
-pub check_settled : (l r : List ℕ) (hd : Header) → OneOutcome numbered (check_rule l r hd)
-check_settled l r hd = settled numbered numbered_readable (check_rule l r hd)
+pub check_settled : (l r : List ℕ) (hd : Header) → OneOutcome (handed of_done) (check_rule l r hd)
+check_settled l r hd = settled (handed of_done) (handed_readable of_done done_told) (check_rule l r hd)
 
-pub clear_settled : (l r : List ℕ) (hd : Header) → OneOutcome cleared (clear_rule l r hd)
-clear_settled l r hd = settled cleared cleared_readable (clear_rule l r hd)
+pub clear_settled : (l r : List ℕ) (hd : Header) → OneOutcome (handed of_done) (clear_rule l r hd)
+clear_settled l r hd = settled (handed of_done) (handed_readable of_done done_told) (clear_rule l r hd)
 
-pub retain_settled : (l r : List ℕ) (hd : Header) (bytes : List ℕ) → OneOutcome retained (retain_rule l r hd bytes)
-retain_settled l r hd bytes = settled retained retained_readable (retain_rule l r hd bytes)
+pub retain_settled : (l r : List ℕ) (hd : Header) (bytes : List ℕ) → OneOutcome (handed of_count) (retain_rule l r hd bytes)
+retain_settled l r hd bytes = settled (handed of_count) (handed_readable of_count count_told) (retain_rule l r hd bytes)
 
-pub rebuild_settled : (l r : List ℕ) (hd : Header) (bytes : List ℕ) → OneOutcome numbered (rebuild_rule l r hd bytes)
-rebuild_settled l r hd bytes = settled numbered numbered_readable (rebuild_rule l r hd bytes)
+pub rebuild_settled : (l r : List ℕ) (hd : Header) (bytes : List ℕ) → OneOutcome (handed of_done) (rebuild_rule l r hd bytes)
+rebuild_settled l r hd bytes = settled (handed of_done) (handed_readable of_done done_told) (rebuild_rule l r hd bytes)
 
 pub key_number_settled : (l r : List ℕ) (hd : Header) (k : Key) (m n : ℕ) → m ≡ key_number l r hd k → n ≡ key_number l r hd k → m ≡ n
 key_number_settled l r hd k m n p q = p ∙ sym q
@@ -224,17 +194,21 @@ pub look_settled : (l : List ℕ) (r : Bor (List ℕ)) (hd : Header) (k : Key) (
 look_settled l r hd k x y p q = (p.words ∙ sym q.words, p.place ∙ sym q.place)
 
 -- and of the parts of calls that are public in their crates
-pub remove_at_settled : (l r : List ℕ) (hd : Header) (q : ℕ) → OneOutcome removed (remove_at l r hd q)
-remove_at_settled l r hd q = settled removed removed_readable (remove_at l r hd q)
+pub remove_at_settled : (l r : List ℕ) (hd : Header) (q : ℕ) → OneOutcome (handed_row of_key) (remove_at l r hd q)
+remove_at_settled l r hd q = settled (handed_row of_key) (handed_row_readable of_key key_told) (remove_at l r hd q)
 
-pub look_row_settled : (l r : List ℕ) (hd : Header) (k : Key) → OneOutcome shown (look_row_rule l r hd k)
-look_row_settled l r hd k = settled shown shown_readable (look_row_rule l r hd k)
+pub look_row_settled : (l r : List ℕ) (hd : Header) (k : Key) → OneOutcome (handed_row of_key) (look_row_rule l r hd k)
+look_row_settled l r hd k = settled (handed_row of_key) (handed_row_readable of_key key_told) (look_row_rule l r hd k)
 
-pub hop_from_settled : (l : List ℕ) (hd : Header) (c : ℕ) (x y : HopAnswer) → of_hop x ≡ hop_from l hd c → of_hop y ≡ hop_from l hd c → x ≡ y
-hop_from_settled l hd c x y p q = sym (hop_back x) ∙ ap hop_of (p ∙ sym q) ∙ hop_back y
+pub hop_from_settled : (l : List ℕ) (hd : Header) (c : ℕ) (x y : Result HopAnswer Refusal) → of_hop x ≡ hop_from l hd c → of_hop y ≡ hop_from l hd c → x ≡ y
+hop_from_settled l hd c x y p q = sym (hop_told.1 x) ∙ ap hop_told.0 (p ∙ sym q) ∙ hop_told.1 y
 
 pub sound_number_settled : (k : ℕ) (l : List ℕ) (hd : Header) (m n : ℕ) → m ≡ sound_number k l hd → n ≡ sound_number k l hd → m ≡ n
 sound_number_settled k l hd m n p q = p ∙ sym q
+
+-- what tests come to: the refusal of a number is one, and none passes
+pub checked_settled : (m : ℕ) (x y : Result ⊤ Refusal) → number_in x ≡ m → number_in y ≡ m → x ≡ y
+checked_settled m x y p q = sym (tests_back x) ∙ ap tests_of (p ∙ sym q) ∙ tests_back y
 
 -- relinking: the header that is handed back and the links at exit
 pub relink_settled : (l : List ℕ) (n : ℕ) (x y : Header) (m k : List ℕ) →

@@ -2,8 +2,8 @@
 pub mod Choice
 pub mod Words
 pub mod Headers
-pub mod Values
 pub mod Refusals
+pub mod Values
 pub mod Given
 pub mod Start
 pub mod Access

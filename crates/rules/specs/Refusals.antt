@@ -1,11 +1,12 @@
 -- The numbers given when a call is turned down: by name, and as chains in document 01's order.
 -- A chain is made of segments; one that does not begin it takes the number so far. The first test that holds gives the number.
 -- What a step asks of its links may be a chain of its own, looked at where the one before it gave none.
-use Rattle.std.specs.Prelude.{ℕ, ◌-◌, ◌/◌, ◌%◌, List, Bool, not, length, ltb, eqb}
+use Rattle.std.specs.Prelude.{ℕ, ◌-◌, ◌/◌, ◌%◌, List, Bool, Result, Ok, Err, ⊤, not, length, ltb, eqb}
 use Rattle.rules.specs.Choice.{pick, both}
 use Rattle.rules.specs.Words.{limit, link_words, row_words, lent_of, is_odd, is_even, version_at, vacant_at}
 use Rattle.rules.specs.declared.Header.{Header}
 use Rattle.rules.specs.declared.Key.{Key}
+use Rattle.rules.specs.declared.Refusal.{Refusal}
 
 abbrev pub shape : ℕ
 shape = 1
@@ -35,9 +36,26 @@ zero_occupied = 8
 abbrev pub broken_stream : ℕ
 broken_stream = 9
 
+-- the number of each refusal
+abbrev pub number_of : Refusal → ℕ
+number_of Refusal.Shape = shape
+number_of Refusal.Damaged = damaged
+number_of Refusal.EvenVersion = even_version
+number_of Refusal.NotLive = not_live
+number_of Refusal.Full = full
+number_of Refusal.StaleCursor = stale_cursor
+number_of Refusal.WrongPresence = wrong_presence
+number_of Refusal.ZeroOccupied = zero_occupied
+number_of Refusal.BrokenStream = broken_stream
+
 -- what a chain starts with: no number
 abbrev pub passes : ℕ
 passes = 0
+
+-- the number that tests have come to: none where they passed, else that of their refusal
+abbrev pub number_in : Result ⊤ Refusal → ℕ
+number_in (Ok _) = passes
+number_in (Err e) = number_of e
 
 -- one more test: the number that there is stays; where there is none, that of the test if it holds
 infixl 20 ◌▸◌

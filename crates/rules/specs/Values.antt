@@ -1,23 +1,15 @@
 -- Document 01's number and values for each case of each answer, and the whole outcome of a call.
-use Rattle.std.specs.Prelude.{ℕ, List, eqb}
+use Rattle.std.specs.Prelude.{ℕ, List, Result, Ok, Err, ⊤, eqb}
 use Rattle.rules.specs.Choice.{pick}
 use Rattle.rules.specs.Words.{zero_row}
+use Rattle.rules.specs.Refusals.{number_of}
 use Rattle.rules.specs.declared.Header.{Header}
 use Rattle.rules.specs.declared.Key.{Key}
-use Rattle.rules.specs.declared.KeyAnswer.{KeyAnswer}
+use Rattle.rules.specs.declared.Refusal.{Refusal}
 use Rattle.rules.specs.declared.HopAnswer.{HopAnswer}
 use Rattle.rules.specs.declared.DrainAnswer.{DrainAnswer}
-use Rattle.rules.specs.declared.ClearAnswer.{ClearAnswer}
-use Rattle.rules.specs.declared.CountAnswer.{CountAnswer}
-use Rattle.rules.specs.declared.Numbered.{Numbered}
-use Rattle.rules.specs.declared.Inserted.{Inserted}
-use Rattle.rules.specs.declared.Removed.{Removed}
-use Rattle.rules.specs.declared.Hopped.{Hopped}
-use Rattle.rules.specs.declared.Drained.{Drained}
-use Rattle.rules.specs.declared.Cleared.{Cleared}
-use Rattle.rules.specs.declared.Retained.{Retained}
-use Rattle.rules.specs.declared.Roomed.{Roomed}
-use Rattle.rules.specs.declared.steps.Shown.{Shown}
+use Rattle.rules.specs.declared.Handed.{Handed}
+use Rattle.rules.specs.declared.HandedRow.{HandedRow}
 
 -- a call gives what was asked for, is done, or is refused: so a refusal is apart from all else, even at number 0
 pub data Kind : Type 0 where
@@ -55,28 +47,34 @@ refused n = record { kind = refuses; number = n; key = zero_key; cursor = 0; cou
 abbrev pub answer_unless : ℕ → Values → Values
 answer_unless n v = pick (eqb n 0) v (refused n)
 
--- the values of each case of each answer
-abbrev pub of_key : KeyAnswer → Values
-of_key (KeyAnswer.Keyed k) = keyed k
-of_key (KeyAnswer.Refused n) = refused n
+-- the values of an answer: those of what it gives, or the refusal's number
+abbrev pub answered : {A : Type 0} → (A → Values) → Result A Refusal → Values
+answered give (Ok x) = give x
+answered give (Err e) = refused (number_of e)
 
-abbrev pub of_hop : HopAnswer → Values
-of_hop (HopAnswer.Visited k c) = visited k c
-of_hop HopAnswer.Done = done
-of_hop (HopAnswer.Refused n) = refused n
+-- what each answer gives: a key, a count, what the hop step and the drain step find, or the work alone
+abbrev pub of_key : Result Key Refusal → Values
+of_key = answered keyed
 
-abbrev pub of_drain : DrainAnswer → Values
-of_drain (DrainAnswer.Keyed k) = keyed k
-of_drain DrainAnswer.Done = done
-of_drain (DrainAnswer.Refused n) = refused n
+abbrev pub of_count : Result ℕ Refusal → Values
+of_count = answered counted
 
-abbrev pub of_clear : ClearAnswer → Values
-of_clear ClearAnswer.Done = done
-of_clear (ClearAnswer.Refused n) = refused n
+abbrev pub found_by_hop : HopAnswer → Values
+found_by_hop (HopAnswer.Visited k c) = visited k c
+found_by_hop HopAnswer.Done = done
 
-abbrev pub of_count : CountAnswer → Values
-of_count (CountAnswer.Counted n) = counted n
-of_count (CountAnswer.Refused n) = refused n
+abbrev pub of_hop : Result HopAnswer Refusal → Values
+of_hop = answered found_by_hop
+
+abbrev pub found_by_drain : DrainAnswer → Values
+found_by_drain (DrainAnswer.Keyed k) = keyed k
+found_by_drain DrainAnswer.Done = done
+
+abbrev pub of_drain : Result DrainAnswer Refusal → Values
+of_drain = answered found_by_drain
+
+abbrev pub of_done : Result ⊤ Refusal → Values
+of_done = answered (λ _. done)
 
 -- a number alone: 0 says that the work is done
 abbrev pub of_number : ℕ → Values
@@ -94,33 +92,12 @@ pub record Outcome : Type 0 where
 abbrev pub plain : Values → Header → List ℕ → List ℕ → Outcome
 plain v hd l r = record { answer = v; row = zero_row; header = hd; links = l; rows = r }
 
--- the outcome that each struct stands for, beside the tables at exit
-abbrev pub numbered : Numbered → List ℕ → List ℕ → Outcome
-numbered x l r = plain (of_number x.number) x.header l r
+-- the outcome that a struct stands for, beside the tables at exit
+abbrev pub handed : {A : Type 0} → (Result A Refusal → Values) → Handed A → List ℕ → List ℕ → Outcome
+handed of x l r = plain (of x.answer) x.header l r
 
-abbrev pub inserted : Inserted → List ℕ → List ℕ → Outcome
-inserted x l r = plain (of_key x.answer) x.header l r
-
-abbrev pub removed : Removed → List ℕ → List ℕ → Outcome
-removed x l r = record { answer = of_key x.answer; row = x.row; header = x.header; links = l; rows = r }
-
-abbrev pub shown : Shown → List ℕ → List ℕ → Outcome
-shown x l r = record { answer = of_key x.answer; row = x.row; header = x.header; links = l; rows = r }
-
-abbrev pub hopped : Hopped → List ℕ → List ℕ → Outcome
-hopped x l r = plain (of_hop x.answer) x.header l r
-
-abbrev pub drained : Drained → List ℕ → List ℕ → Outcome
-drained x l r = record { answer = of_drain x.answer; row = x.row; header = x.header; links = l; rows = r }
-
-abbrev pub cleared : Cleared → List ℕ → List ℕ → Outcome
-cleared x l r = plain (of_clear x.answer) x.header l r
-
-abbrev pub retained : Retained → List ℕ → List ℕ → Outcome
-retained x l r = plain (of_count x.answer) x.header l r
-
-abbrev pub roomed : Roomed → List ℕ → List ℕ → Outcome
-roomed x l r = plain (of_count x.answer) x.header l r
+abbrev pub handed_row : {A : Type 0} → (Result A Refusal → Values) → HandedRow A → List ℕ → List ℕ → Outcome
+handed_row of x l r = record { answer = of x.answer; row = x.row; header = x.header; links = l; rows = r }
 
 -- a refusal, the same for every call: its number, zeros, the header as given, nothing written
 abbrev pub refusal : List ℕ → List ℕ → Header → ℕ → Outcome

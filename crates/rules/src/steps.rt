@@ -1,6 +1,4 @@
 // What functions hand to each other, by value; no user of the map meets it.
-use crate::{Header, KeyAnswer, Row};
-
 // What insert reads before it writes: h = next(0), b = other_end(h), n = next(h).
 #[derive(Clone, Copy)]
 pub struct InsertLinks {
@@ -16,12 +14,4 @@ pub struct Beside {
     pub right: u32,
     pub before: bool,
     pub after: bool,
-}
-
-// What a look by value hands back: the row of a live key, zero on refusal.
-#[derive(Drop)]
-pub struct Shown {
-    pub answer: KeyAnswer,
-    pub row: Row,
-    pub header: Header,
 }

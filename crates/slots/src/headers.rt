@@ -3,7 +3,6 @@ ghost use Rattle.std.specs.Prelude.{◌≡◌};
 ghost use Rattle.rules.specs.Words.{rise};
 ghost use Rattle.rules.specs.Headers.{fresh, one_less, rebuilt};
 
-use crate::choice::one_below;
 use rules::Header;
 
 pub fn fresh() -> Header
@@ -18,7 +17,7 @@ pub fn one_more(header: Header) -> Header
 {
     Header {
         used: header.used,
-        live: std::num::wrapping_add_u32(header.live, 1),
+        live: header.live.wrapping_add(1),
     }
 }
 
@@ -27,8 +26,8 @@ pub fn grown(header: Header) -> Header
     ensures { result ≡ record { used = rise header.used; live = rise header.live } }
 {
     Header {
-        used: std::num::wrapping_add_u32(header.used, 1),
-        live: std::num::wrapping_add_u32(header.live, 1),
+        used: header.used.wrapping_add(1),
+        live: header.live.wrapping_add(1),
     }
 }
 
@@ -38,7 +37,7 @@ pub fn one_less(header: Header) -> Header
 {
     Header {
         used: header.used,
-        live: one_below(header.live),
+        live: header.live.saturating_sub(1),
     }
 }
 

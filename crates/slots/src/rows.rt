@@ -5,44 +5,42 @@ ghost use Rattle.rules.specs.Words.{zero_row, row_at, set_row};
 use rules::{ROW_WORDS, Row};
 
 // Row i becomes the side buffer.
+#[tactic(auto, unfolding(rules::specs::Words::set_row))]
 pub fn set_row(rows: &mut [u32], i: u32, side: &[u32])
     ensures { rows.new ≡ set_row rows.old i side.now }
 {
     let at = i as usize * ROW_WORDS;
+    let end = at + ROW_WORDS;
     if side.len() != ROW_WORDS {
         return;
     }
-    if rows.len() < at + ROW_WORDS {
+    if rows.len() < end {
         return;
     }
-    let mut k = 0;
-    while k < ROW_WORDS {
-        rows[at + k] = side[k];
-        k += 1;
-    }
+    rows[at..end].copy_from_slice(side);
 }
 
 // Row i becomes zero.
 pub fn clear_row(rows: &mut [u32], i: u32)
     ensures { rows.new ≡ set_row rows.old i zero_row }
 {
-    let zeros = [0u32; ROW_WORDS];
-    set_row(rows, i, &zeros);
+    set_row(rows, i, &[0; ROW_WORDS]);
 }
 
 // Row i by value.
+#[tactic(auto, unfolding(rules::specs::Words::row_at))]
 pub fn row(rows: &[u32], used: u32, i: u32) -> Row
     ensures { result ≡ row_at rows.now used i }
 {
-    let mut words = [0u32; ROW_WORDS];
+    let mut words = [0; ROW_WORDS];
+    let at = i as usize * ROW_WORDS;
+    let end = at + ROW_WORDS;
     if used <= i {
         return words;
     }
-    let at = i as usize * ROW_WORDS;
-    let end = at + ROW_WORDS;
     if rows.len() < end {
         return words;
     }
-    set_row(&mut words, 0, &rows[at..end]);
+    words.copy_from_slice(&rows[at..end]);
     words
 }

@@ -1,35 +1,38 @@
 // The four link words of a slot, read and written.
 ghost use Rattle.std.specs.Prelude.{◌≡◌};
 ghost use Rattle.rules.specs.Words.{link_at, set_link, version_at, next_at, prev_at, other_end_at, set_version, set_next, set_prev, set_other_end, zero_links, new_slot, vacant_at, occupied_at};
+ghost use Rattle.slots.specs.Places.{place_of};
 
-use crate::choice::both;
 use rules::LINK_WORDS;
 
-// Where each word of a slot stands.
-const VERSION: u32 = 0;
-
-const NEXT: u32 = 1;
-
-const PREV: u32 = 2;
-
-const OTHER_END: u32 = 3;
-
-// Word w of slot i.
-fn link(links: &[u32], used: u32, i: u32, w: u32) -> u32
-    ensures { result ≡ link_at links.now used i w }
-{
-    if used <= i {
-        return 0;
-    }
-    let at = i as usize * LINK_WORDS + w as usize;
-    if at < links.len() { links[at] } else { 0 }
+// The words of a slot, in the order in which they stand.
+#[derive(Clone, Copy)]
+enum Word {
+    Version,
+    Next,
+    Prev,
+    OtherEnd,
 }
 
-// Word w of slot i becomes x.
-fn set_link(links: &mut [u32], i: u32, w: u32, x: u32)
-    ensures { links.new ≡ set_link links.old i w x }
+// A word of slot i.
+#[tactic(auto, unfolding(rules::specs::Words::link_at))]
+fn link(links: &[u32], used: u32, i: u32, word: Word) -> u32
+    ensures { result ≡ link_at links.now used i (place_of word) }
 {
-    let at = i as usize * LINK_WORDS + w as usize;
+    let at = i as usize * LINK_WORDS + word as usize;
+    if i < used && at < links.len() {
+        links[at]
+    } else {
+        0
+    }
+}
+
+// A word of slot i becomes x.
+#[tactic(auto, unfolding(rules::specs::Words::set_link))]
+fn set_link(links: &mut [u32], i: u32, word: Word, x: u32)
+    ensures { links.new ≡ set_link links.old i (place_of word) x }
+{
+    let at = i as usize * LINK_WORDS + word as usize;
     if at < links.len() {
         links[at] = x;
     }
@@ -38,49 +41,49 @@ fn set_link(links: &mut [u32], i: u32, w: u32, x: u32)
 pub fn version(links: &[u32], used: u32, i: u32) -> u32
     ensures { result ≡ version_at links.now used i }
 {
-    link(links, used, i, VERSION)
+    link(links, used, i, Word::Version)
 }
 
 pub fn next(links: &[u32], used: u32, i: u32) -> u32
     ensures { result ≡ next_at links.now used i }
 {
-    link(links, used, i, NEXT)
+    link(links, used, i, Word::Next)
 }
 
 pub fn prev(links: &[u32], used: u32, i: u32) -> u32
     ensures { result ≡ prev_at links.now used i }
 {
-    link(links, used, i, PREV)
+    link(links, used, i, Word::Prev)
 }
 
 pub fn other_end(links: &[u32], used: u32, i: u32) -> u32
     ensures { result ≡ other_end_at links.now used i }
 {
-    link(links, used, i, OTHER_END)
+    link(links, used, i, Word::OtherEnd)
 }
 
 pub fn set_version(links: &mut [u32], i: u32, x: u32)
     ensures { links.new ≡ set_version links.old i x }
 {
-    set_link(links, i, VERSION, x);
+    set_link(links, i, Word::Version, x);
 }
 
 pub fn set_next(links: &mut [u32], i: u32, x: u32)
     ensures { links.new ≡ set_next links.old i x }
 {
-    set_link(links, i, NEXT, x);
+    set_link(links, i, Word::Next, x);
 }
 
 pub fn set_prev(links: &mut [u32], i: u32, x: u32)
     ensures { links.new ≡ set_prev links.old i x }
 {
-    set_link(links, i, PREV, x);
+    set_link(links, i, Word::Prev, x);
 }
 
 pub fn set_other_end(links: &mut [u32], i: u32, x: u32)
     ensures { links.new ≡ set_other_end links.old i x }
 {
-    set_link(links, i, OTHER_END, x);
+    set_link(links, i, Word::OtherEnd, x);
 }
 
 // Slot i gets zero links.
@@ -93,6 +96,7 @@ pub fn zero_links(links: &mut [u32], i: u32)
 }
 
 // Slot i gets a version and zero links.
+#[tactic(auto, unfolding(rules::specs::Words::new_slot))]
 pub fn new_slot(links: &mut [u32], i: u32, version: u32)
     ensures { links.new ≡ new_slot links.old i version }
 {
@@ -101,15 +105,17 @@ pub fn new_slot(links: &mut [u32], i: u32, version: u32)
 }
 
 // Slot i is in use, and vacant.
+#[tactic(auto, unfolding(rules::specs::Words::vacant_at))]
 pub fn vacant(links: &[u32], used: u32, i: u32) -> bool
     ensures { result ≡ vacant_at links.now used i }
 {
-    both(i < used, version(links, used, i) % 2 == 0)
+    i < used && version(links, used, i) % 2 == 0
 }
 
 // Slot i is in use, and occupied.
+#[tactic(auto, unfolding(rules::specs::Words::occupied_at))]
 pub fn occupied(links: &[u32], used: u32, i: u32) -> bool
     ensures { result ≡ occupied_at links.now used i }
 {
-    both(i < used, version(links, used, i) % 2 == 1)
+    i < used && version(links, used, i) % 2 == 1
 }

@@ -5,7 +5,6 @@ ghost use Rattle.rules.specs.Words.{version_at, vacant_by};
 ghost use Rattle.rules.specs.Check.{meet_at, ends_test};
 
 use parity::is_back;
-use slots::choice::both;
 use slots::words::{other_end, vacant};
 
 // Where slot i is a run's back, it and the run's front lead to each other.
@@ -15,12 +14,11 @@ fn meet_at(links: &[u32], used: u32, front: u32, i: u32) -> bool
     if !is_back(links, used, i) {
         return true;
     }
-    let to_back = other_end(links, used, front);
-    let to_front = other_end(links, used, i);
-    both(to_back == i, to_front == front)
+    other_end(links, used, front) == i && other_end(links, used, i) == front
 }
 
 // The front of the run that slot i + 1 is in if it is vacant, from that of slot i.
+#[tactic(auto, unfolding(rules::specs::Words::vacant_at))]
 fn front_after(links: &[u32], used: u32, front: u32, i: u32) -> u32
     requires { i < used }
     ensures { result ≡ pick (vacant_by (version_at links.now used) used i) front (i + 1) }
@@ -31,14 +29,12 @@ fn front_after(links: &[u32], used: u32, front: u32, i: u32) -> u32
 pub fn ends_meet(links: &[u32], used: u32) -> bool
     ensures { result ≡ ends_test links.now used }
 {
-    let mut front: u32 = 0;
-    let mut i: u32 = 0;
-    while i < used {
+    let mut front = 0;
+    for i in 0..used {
         if !meet_at(links, used, front, i) {
             return false;
         }
         front = front_after(links, used, front, i);
-        i += 1;
     }
     true
 }

@@ -5,46 +5,56 @@ mod circle;
 mod ends;
 
 ghost use Rattle.std.specs.Prelude.{◌≡◌};
-ghost use Rattle.rules.specs.Values.{numbered};
+ghost use Rattle.rules.specs.Refusals.{passes, number_in, entry_number};
+ghost use Rattle.rules.specs.Values.{of_done, handed};
 ghost use Rattle.rules.specs.Check.{sound_test, sound_number, check_rule};
 
 use circle::circle_closes;
 use ends::ends_meet;
 use parity::{odd_count, run_count};
-use refusals::{PASSES, entry_number, or_if};
-use rules::{DAMAGED, Header, Numbered};
-use slots::choice::both;
+use refusals::check_entry;
+use rules::{Handed, Header, Refusal};
 use slots::words::version;
 
 // The table is sound.
-fn sound_test(links: &[u32], header: Header) -> bool
+#[tactic(auto, unfolding(rules::specs::Check::sound_test))]
+fn is_sound(links: &[u32], header: Header) -> bool
     ensures { result ≡ sound_test links.now header }
 {
     let used = header.used;
-    let even = version(links, used, 0) % 2 == 0;
-    let odds = odd_count(links, used);
-    let runs = run_count(links, used);
-    let linked = both(ends_meet(links, used), circle_closes(links, used, runs));
-    both(even, both(header.live == odds, linked))
+    version(links, used, 0) % 2 == 0
+        && header.live == odd_count(links, used)
+        && ends_meet(links, used)
+        && circle_closes(links, used, run_count(links, used))
 }
 
-// The whole check, after the number so far. Where there is one no slot is walked: used may be any number then.
-pub fn sound_number(n: u32, links: &[u32], header: Header) -> u32
-    ensures { result ≡ sound_number n links.now header }
+// The whole check. The header is of the right shape here, else used could be any number of slots to walk.
+#[tactic(auto, unfolding(rules::specs::Check::sound_number), using(rules::proofs::Chain::chain))]
+pub fn check_sound(links: &[u32], header: Header) -> Result<(), Refusal>
+    ensures { number_in result ≡ sound_number passes links.now header }
 {
-    if n != PASSES {
-        return n;
+    if !is_sound(links, header) {
+        return Err(Refusal::Damaged);
     }
-    or_if(n, !sound_test(links, header), DAMAGED)
+    Ok(())
+}
+
+// What clear and the soundness check itself test: the entry, then the whole table.
+#[tactic(auto, unfolding(rules::specs::Check::sound_number), using(rules::proofs::Chain::chain))]
+pub fn check_table(links: &[u32], rows: &[u32], header: Header) -> Result<(), Refusal>
+    ensures { number_in result ≡ sound_number (entry_number links.now rows.now header) links.now header }
+{
+    check_entry(links, rows, header)?;
+    check_sound(links, header)
 }
 
 // Accepts exactly the sound tables.
-pub fn sound(links: &[u32], rows: &[u32], header: Header) -> Numbered
-    ensures { numbered result links.now rows.now ≡ check_rule links.now rows.now header }
+#[tactic(auto, unfolding(rules::specs::Check::check_rule), using(rules::proofs::Outcomes::outcomes))]
+pub fn sound(links: &[u32], rows: &[u32], header: Header) -> Handed<()>
+    ensures { handed of_done result links.now rows.now ≡ check_rule links.now rows.now header }
 {
-    let entry = entry_number(links, rows, header);
-    Numbered {
-        number: sound_number(entry, links, header),
+    Handed {
+        answer: check_table(links, rows, header),
         header,
     }
 }

@@ -5,4 +5,3 @@ pub mod Turns
 pub mod Settled
 -- What the proofs of the functions share.
 mod Numbered
-mod Phases

@@ -1,9 +1,10 @@
 -- A piece of the input, fed: turn after turn, while there is a byte to hear or a walk to go on with, and room for any reply.
-use Rattle.std.specs.Prelude.{ℕ, ◌+◌, List, Bool, true, false, not, length, get_or, eqb, ltb}
+use Rattle.std.specs.Prelude.{ℕ, ◌+◌, List, Bool, Result, Ok, Err, true, false, not, length, get_or, eqb, ltb}
 use Rattle.rules.specs.Choice.{pick, both}
-use Rattle.rules.specs.Refusals.{◌▸◌, shape, shape_number}
+use Rattle.rules.specs.Refusals.{◌▸◌, shape, number_of, shape_number}
+use Rattle.rules.specs.declared.Refusal.{Refusal}
 use Rattle.wire.specs.Replies.{saying_bytes, longest, fits, replied, replied_to}
-use Rattle.commands.specs.Turns.{Run, Turned, walk_turn}
+use Rattle.commands.specs.Turns.{Run, Turned, run_of, walk_turn}
 use Rattle.commands.specs.declared.Phase.{Phase}
 use Rattle.commands.specs.declared.Stream.{Stream}
 use Rattle.stream.specs.declared.Fed.{Fed}
@@ -84,17 +85,6 @@ pub record Piece : Type 0 where
   pub run : Run
   pub out : List ℕ
 
-abbrev pub fed : Fed → List ℕ → List ℕ → List ℕ → Piece
-fed x l r out =
-    record {
-      number = x.number;
-      taken = x.taken;
-      written = x.written;
-      waits = x.waits;
-      run = record { links = l; rows = r; stream = x.stream };
-      out = out;
-    }
-
 abbrev pub piece : ℕ → Feeding → Piece
 piece n f = record { number = 0; taken = f.taken; written = f.written; waits = waits n f; run = f.run; out = f.out }
 
@@ -104,6 +94,19 @@ begun s out = record { run = s; taken = 0; out = out; written = 0 }
 -- refused: nothing is taken, written or changed
 abbrev pub refused_piece : ℕ → Run → List ℕ → Piece
 refused_piece n s out = record { number = n; taken = 0; written = 0; waits = false; run = s; out = out }
+
+-- the piece that an answer of the code stands for, beside the state that was given, tables and output
+abbrev pub fed : Stream → Result Fed Refusal → List ℕ → List ℕ → List ℕ → Piece
+fed s (Ok x) l r out =
+    record {
+      number = 0;
+      taken = x.taken;
+      written = x.written;
+      waits = x.waits;
+      run = run_of l r x.stream;
+      out = out;
+    }
+fed s (Err e) l r out = refused_piece (number_of e) (run_of l r s) out
 
 abbrev pub piece_unless : Run → List ℕ → Piece → Piece
 piece_unless s out p =

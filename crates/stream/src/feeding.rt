@@ -1,16 +1,15 @@
 // A piece of the input, turn after turn.
-ghost use Rattle.std.specs.Prelude.{◌≡◌, true, false, ◌<◌, length, ltb};
+ghost use Rattle.std.specs.Prelude.{◌≡◌, true, ◌<◌, length, ltb};
 ghost use Rattle.rules.specs.Choice.{both};
 ghost use Rattle.wire.specs.Replies.{saying_bytes, fits, replied, replied_to};
 ghost use Rattle.commands.specs.Turns.{run_of};
-ghost use Rattle.hearing.specs.Heard.{walks_in, cursor_in};
 ghost use Rattle.stream.specs.Feeding.{feeding, heard_once, fed_once, waits_in, fed, begun, fed_whole, feed_rule, finish_rule};
 
 use crate::Fed;
-use crate::number::feed_number;
+use crate::refusing::check_feed;
 use commands::{Phase, Stream, Turn, walk_turn};
 use hearing::{ended, heard};
-use hop::Cursor;
+use hop::Refusal;
 use replies::{fits, put_reply};
 
 // How far a piece is: the state, the bytes taken of the input and written to the output.
@@ -26,14 +25,10 @@ fn spoken(out: &mut [u8], taken: usize, written: usize, t: Turn) -> Progress
     ensures value { result ≡ record { stream = t.stream; taken = taken; written = replied_to out.old written (saying_bytes t.saying t.row) } }
     ensures out_after { out.new ≡ replied out.old written (saying_bytes t.saying t.row) }
 {
-    let stream = t.stream;
-    let row = t.row;
-    let saying = t.saying;
-    let after = put_reply(out, written, saying, &row);
     Progress {
-        stream,
+        stream: t.stream,
         taken,
-        written: after,
+        written: put_reply(out, written, t.saying, &t.row),
     }
 }
 
@@ -48,42 +43,12 @@ fn heard_once(
     requires { f.taken < length input.now }
     ensures { feeding result links.new rows.new out.new ≡ heard_once input.now (feeding f links.old rows.old out.old) }
 {
-    let taken = f.taken;
-    let t = heard(links, rows, f.stream, input[taken]);
-    spoken(out, taken + 1, f.written, t)
-}
-
-// Whether a walk is under way, and where it stands.
-#[derive(Clone, Copy)]
-pub struct Afoot {
-    pub walks: bool,
-    pub cursor: Cursor,
-}
-
-fn walk_in(phase: Phase) -> Afoot
-    ensures { result ≡ record { walks = walks_in phase; cursor = cursor_in phase } }
-{
-    match phase {
-        Phase::Between => Afoot {
-            walks: false,
-            cursor: 0,
-        },
-        Phase::Gathering(command, got) => Afoot {
-            walks: false,
-            cursor: 0,
-        },
-        Phase::Walking(cursor) => Afoot {
-            walks: true,
-            cursor,
-        },
-        Phase::Ended => Afoot {
-            walks: false,
-            cursor: 0,
-        },
-    }
+    let t = heard(links, rows, f.stream, input[f.taken]);
+    spoken(out, f.taken + 1, f.written, t)
 }
 
 // One turn, where one is to come: a step of the walk that is under way, else the next byte.
+#[tactic(auto, unfolding(crate::specs::Feeding::fed_once))]
 fn fed_once(
     links: &mut [u32],
     rows: &mut [u32],
@@ -94,26 +59,24 @@ fn fed_once(
     requires { waits_in f.stream.phase (ltb f.taken (length input.now)) ≡ true }
     ensures { feeding result links.new rows.new out.new ≡ fed_once input.now (feeding f links.old rows.old out.old) }
 {
-    let s = f.stream;
-    let phase = s.phase;
-    let walk = walk_in(phase);
-    if walk.walks {
-        let t = walk_turn(links, rows, s, walk.cursor);
-        return spoken(out, f.taken, f.written, t);
+    match f.stream.phase {
+        Phase::Walking(cursor) => {
+            let t = walk_turn(links, rows, f.stream, cursor);
+            spoken(out, f.taken, f.written, t)
+        }
+        Phase::Between | Phase::Gathering(_, _) | Phase::Ended => {
+            heard_once(links, rows, input, out, f)
+        }
     }
-    heard_once(links, rows, input, out, f)
 }
 
 // Whether something is to be done with so many bytes of input: a byte to hear, or a walk to go on with.
 fn waits(f: Progress, n: usize) -> bool
     ensures { result ≡ waits_in f.stream.phase (ltb f.taken n) }
 {
-    let s = f.stream;
-    let phase = s.phase;
-    match phase {
-        Phase::Between => f.taken < n,
-        Phase::Gathering(command, got) => f.taken < n,
-        Phase::Walking(cursor) => true,
+    match f.stream.phase {
+        Phase::Between | Phase::Gathering(_, _) => f.taken < n,
+        Phase::Walking(_) => true,
         Phase::Ended => false,
     }
 }
@@ -122,10 +85,7 @@ fn waits(f: Progress, n: usize) -> bool
 fn going(f: Progress, n: usize, room: usize) -> bool
     ensures { result ≡ both (fits room f.written) (waits_in f.stream.phase (ltb f.taken n)) }
 {
-    if !fits(room, f.written) {
-        return false;
-    }
-    waits(f, n)
+    fits(room, f.written) && waits(f, n)
 }
 
 // Turn after turn.
@@ -149,53 +109,42 @@ fn fed_whole(
     f
 }
 
-fn refused(number: u32, s: Stream) -> Fed
-    ensures { result ≡ record { number = number; taken = 0; written = 0; waits = false; stream = s } }
-{
-    Fed {
-        number,
-        taken: 0,
-        written: 0,
-        waits: false,
-        stream: s,
-    }
-}
-
 // What a piece of so many bytes hands back.
 fn piece(f: Progress, n: usize) -> Fed
-    ensures { result ≡ record { number = 0; taken = f.taken; written = f.written; waits = waits_in f.stream.phase (ltb f.taken n); stream = f.stream } }
+    ensures { result ≡ record { taken = f.taken; written = f.written; waits = waits_in f.stream.phase (ltb f.taken n); stream = f.stream } }
 {
-    let stream = f.stream;
     Fed {
-        number: 0,
         taken: f.taken,
         written: f.written,
         waits: waits(f, n),
-        stream,
+        stream: f.stream,
     }
 }
 
-// Feeds a piece of the input: hears its bytes and writes the replies, until the piece is heard, the output is full or the run is at its end.
-pub fn feed(links: &mut [u32], rows: &mut [u32], s: Stream, input: &[u8], out: &mut [u8]) -> Fed
-    ensures { fed result links.new rows.new out.new ≡ feed_rule (run_of links.old rows.old s) input.now out.old }
+// Feeds a piece of the input: hears its bytes and writes the replies, until the piece is heard, the output is full or the run is at its end. Refused
+// with 1 for tables or a header of the wrong shape, an output of fewer than LONGEST bytes, or a state that no bytes could have left; then nothing is
+// done, and the state is the one that was given.
+#[tactic(auto, unfolding(crate::specs::Feeding::feed_rule, crate::specs::Feeding::waits), using(crate::proofs::Numbered::pieces))]
+pub fn feed(
+    links: &mut [u32],
+    rows: &mut [u32],
+    s: Stream,
+    input: &[u8],
+    out: &mut [u8],
+) -> Result<Fed, Refusal>
+    ensures { fed s result links.new rows.new out.new ≡ feed_rule (run_of links.old rows.old s) input.now out.old }
 {
-    let number = feed_number(links, rows, s, out.len());
-    if number != 0 {
-        return refused(number, s);
-    }
+    check_feed(links, rows, s, out.len())?;
     let f = fed_whole(links, rows, s, input, out);
-    piece(f, input.len())
+    Ok(piece(f, input.len()))
 }
 
-// The end of the input, when every byte is heard and every walk at its end: a cut body is answered with 9.
-pub fn finish(links: &[u32], rows: &[u32], s: Stream, out: &mut [u8]) -> Fed
-    ensures { fed result links.now rows.now out.new ≡ finish_rule (run_of links.now rows.now s) out.old }
+// The end of the input, when every byte is heard and every walk at its end: a cut body is answered with 9. Refused as a piece is.
+#[tactic(auto, unfolding(crate::specs::Feeding::finish_rule, crate::specs::Feeding::waits), using(crate::proofs::Numbered::pieces))]
+pub fn finish(links: &[u32], rows: &[u32], s: Stream, out: &mut [u8]) -> Result<Fed, Refusal>
+    ensures { fed s result links.now rows.now out.new ≡ finish_rule (run_of links.now rows.now s) out.old }
 {
-    let number = feed_number(links, rows, s, out.len());
-    if number != 0 {
-        return refused(number, s);
-    }
-    let t = ended(s);
-    let f = spoken(out, 0, 0, t);
-    piece(f, 0)
+    check_feed(links, rows, s, out.len())?;
+    let f = spoken(out, 0, 0, ended(s));
+    Ok(piece(f, 0))
 }

@@ -52,3 +52,6 @@ saying_length (Saying.WithKey k) row h = omega (arith, with_key_length k row)
 saying_length (Saying.WithRow k) row h = omega (arith, with_row_length k row h)
 saying_length Saying.Done row h = omega (arith, done_length row)
 saying_length (Saying.Refused n) row h = omega (arith, refused_length n row)
+
+-- what the code that writes replies needs of lengths
+pub ruleset lengths = (length_bytes, length_key_bytes, length_words_bytes, length-append)

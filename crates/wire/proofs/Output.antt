@@ -2,12 +2,12 @@
 use Prim.Native.Nat.{ℕ, ◌+◌, ◌≤◌}
 use mathlib.Core.List.{List}
 use mathlib.Core.Path.{◌≡◌, refl}
-use mathlib.Core.Bool.{true, false}
+use mathlib.Core.Bool.{true}
 use borrow.Author.Tests.{leb-true}
 use lib.ListN.{length}
 use lib.Seq.{sets, length-sets}
 use Rattle.rules.proofs.Choice.{by_pick}
-use Rattle.wire.specs.Replies.{fits, longest, replied, replied_to}
+use Rattle.wire.specs.Replies.{fits, longest, replied}
 
 pub replied_keeps : (out : List ℕ) (at : ℕ) (reply : List ℕ) → length (replied out at reply) ≡ length out
 unfolding replied
@@ -19,14 +19,3 @@ replied_keeps out at reply =
 pub fits_room : (room at : ℕ) → fits room at ≡ true → at + longest ≤ room
 unfolding fits
 fits_room room at h = leb-true (at + longest) room h
-
--- a reply where any fits: it is written, and ends as many bytes on as it has; where none fits the output stays
-module _ (out : List ℕ) (at : ℕ) (reply : List ℕ) where
-  pub said : (to : ℕ) (written : List ℕ) → fits (length out) at ≡ true → to ≡ at + length reply → written ≡ sets out at reply →
-      (to ≡ replied_to out at reply) × (written ≡ replied out at reply)
-  unfolding replied replied_to
-  said to written h t w = simp h (t, w)
-
-  pub not_said : fits (length out) at ≡ false → (at ≡ replied_to out at reply) × (out ≡ replied out at reply)
-  unfolding replied replied_to
-  not_said h = simp h (refl, refl)

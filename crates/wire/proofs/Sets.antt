@@ -1,14 +1,15 @@
 -- Bytes stored from a place on: those of two lists, and those of the words of a row, one word after the other. Assumes nothing.
-use Prim.Native.Nat.{ℕ, suc, ◌+◌, ◌*◌, ◌<◌}
-use mathlib.Core.List.{List, [], ◌∷◌, ◌++◌}
+use Prim.Native.Nat.{ℕ, suc, ◌+◌, ◌-◌, ◌*◌, ◌≤◌, ◌<◌}
+use mathlib.Core.List.{List, [], ◌∷◌, ◌++◌, append_assoc}
 use mathlib.Core.Path.{◌≡◌, refl, sym, ap, ◌∙◌}
-use native.Mathlib.Nat.{add-zero, add-suc, suc-add}
+use native.Mathlib.Nat.{add-zero, add-suc, suc-add, add-sub_cancel_left}
 use native.Mathlib.Numerals.{add-one}
 use native.Mathlib.Omega.{arith}
 use lib.ListN.{length, set, take, get_or}
-use lib.Seq.{sets, take-suc, length-take-le}
+use lib.Seq.{sets, length-sets, sets-eq, take-suc, length-take-le, drop-drop}
+use borrow.Rule.Slice.PartMut.{put_mid}
 use Rattle.wire.specs.Words.{bytes_of, words_bytes}
-use Rattle.wire.proofs.Lengths.{length_words_bytes}
+use Rattle.wire.proofs.Lengths.{length_bytes, length_key_bytes, length_words_bytes}
 
 -- the first list and then the second, from where the first ends
 pub sets_append : (l : List ℕ) (i : ℕ) (vs ws : List ℕ) → sets l i (vs ++ ws) ≡ sets (sets l i vs) (i + length vs) ws
@@ -29,3 +30,12 @@ pub sets_words_more : (l : List ℕ) (i : ℕ) (ws : List ℕ) (k : ℕ) → k <
 sets_words_more l i ws k h =
     let t : length (take k ws) ≡ k = length-take-le k ws (omega arith) in
     rw (add-one, take-suc ws k 0 h, words_bytes_append, sets_append, length_words_bytes, t)
+
+-- bytes copied into the part where they belong, with its end less its start worked out
+pub copied : (l : List ℕ) (i n : ℕ) (vs : List ℕ) → length vs ≡ n → i + n ≤ length l → put_mid i (i + n - i) l vs ≡ sets l i vs
+copied l i n vs h j =
+    simp (add-sub_cancel_left, drop-drop, ← append_assoc)
+    (sym (rw h at (sets-eq vs l i (omega arith))))
+
+-- what the code that writes replies needs of stores
+pub ruleset stores = (sets_append, length-sets, length_bytes, length_key_bytes, length_words_bytes)

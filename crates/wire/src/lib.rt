@@ -1,13 +1,13 @@
 // The bytes of the command stream: the kinds of commands, words as bytes, and what may be replied, which the crate replies writes.
 #![tactic(auto)]
 
-pub mod kinds;
+mod commands;
 pub mod words;
 
 use rules::Key;
 
 // What a command's first byte asks for.
-#[derive(Clone, Copy)]
+#[derive(Clone, Copy, Debug, PartialEq, Eq)]
 pub enum Command {
     Insert,
     Remove,
@@ -27,7 +27,7 @@ pub type Body = [u8; BODY_BYTES];
 pub const LONGEST: usize = 41;
 
 // What is replied: nothing, a key, a key with the row that stands beside this, done, or a number.
-#[derive(Clone, Copy)]
+#[derive(Clone, Copy, Debug, PartialEq, Eq)]
 pub enum Saying {
     Silent,
     WithKey(Key),

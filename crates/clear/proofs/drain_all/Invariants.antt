@@ -1,11 +1,10 @@
-use Rattle.rules.specs.Values.{drained}
+use Rattle.std.proofs.Common.{◌≡◌, ◌-◌}
+use Rattle.rules.specs.Values.{of_drain, handed_row}
 use Rattle.rules.specs.Clear.{drain_times}
-use mathlib.Core.Path.{◌≡◌}
-use lib.ListN.{length}
 use Rattle.clear.proofs.drain_all.Given as goal
 
-abbrev pub invariant-loop-left : goal.invariant-loop-left
-invariant-loop-left l = (length l.links ≡ length l.initial.links) × (length l.rows ≡ length l.initial.rows) × (drain_times l.left (drained l.last l.links l.rows) ≡ drain_times l.initial.left (drained l.initial.last l.initial.links l.initial.rows))
-
-abbrev pub decreases-loop-left : goal.decreases-loop-left
-decreases-loop-left l = l.left
+-- the steps left, from what the last one left, come to what all of them come to
+abbrev pub invariant-loop : goal.invariant-loop
+invariant-loop l =
+    drain_times (l.end - l.counter) (handed_row of_drain l.last l.links l.rows)
+    ≡ drain_times l.initial.end (handed_row of_drain l.initial.last l.initial.links l.initial.rows)

@@ -1,14 +1,12 @@
-use Rattle.program.specs.Places.{InBuffer}
-use Rattle.course.specs.Pieces.{Reached}
+use Rattle.std.proofs.Common.{length}
 use Rattle.commands.specs.Turns.{run_of}
-use lib.ListN.{length}
+use Rattle.course.specs.Pieces.{Reached}
+use Rattle.program.specs.Places.{InBuffer}
 use Rattle.program.proofs.serve.Given as goal
 
-abbrev pub invariant-loop-rounds : goal.invariant-loop-rounds
-invariant-loop-rounds l = record {
-  in_buffer : InBuffer l.p (length l.input);
-  reached : Reached (run_of l.initial.links l.initial.rows l.initial.p.stream) (run_of l.links l.rows l.p.stream);
+-- what is left of the piece lies in the buffer, and pieces have led here
+abbrev pub invariant-loop-round : goal.invariant-loop-round
+invariant-loop-round l = record {
+  in_buffer : InBuffer l.next (length l.input);
+  reached : Reached (run_of l.initial.links l.initial.rows l.initial.stream) (run_of l.links l.rows l.stream);
 }
-
-abbrev pub decreases-loop-rounds : goal.decreases-loop-rounds
-decreases-loop-rounds l = l.rounds

@@ -11,7 +11,7 @@ use Rattle.sound.proofs.ends.ends_meet.Goals.{After-meet_at}
 
 pub loop-i-init : goal.loop-i-init
 unfolding front_of all_below
-loop-i-init c = (omega arith, refl, refl)
+loop-i-init c = (refl, refl)
 
 -- slot i is judged as the rule does it
 judged : (c : After-meet_at) →
@@ -19,7 +19,7 @@ judged : (c : After-meet_at) →
     let used = c.args.used in
     let i = c.loop-i.i in
     c.meet_at.result ≡ meet_at l used (front_of (version_at l used) used i) i
-judged c = rw (← c.loop-i.invariant.1) c.meet_at.ensures
+judged c = rw (← c.loop-i.invariant.0) c.meet_at.ensures
 
 pub returns-then-not-meet_at : goal.returns-then-not-meet_at
 unfolding ends_test
@@ -29,13 +29,12 @@ returns-then-not-meet_at c =
 
 pub loop-i-preserved : goal.loop-i-preserved
 loop-i-preserved c = (
-  omega arith,
-  front_on _ _ _ _ c.loop-i.invariant.1 _ c.front_after-front.ensures,
-  rw (all_next, c.loop-i.invariant.2) (sym (judged (goal.at.loop-i-preserved c).After-meet_at) ∙ c.if-not-meet_at.false),
+  front_on _ _ _ _ c.loop-i.invariant.0 _ c.front_after-front.ensures,
+  rw (all_next, c.loop-i.invariant.1) (sym (judged (goal.at.loop-i-preserved c).After-meet_at) ∙ c.if-not-meet_at.false),
 )
 
 pub returns : goal.returns
 unfolding ends_test
 returns c =
     let all : c.loop-i.i ≡ c.args.used = omega arith in
-    sym (rw all at c.loop-i.invariant.2)
+    sym (rw all at c.loop-i.invariant.1)

@@ -1,2 +1,0 @@
--- What the proofs of access share.
-mod Part

@@ -1,2 +1,0 @@
--- What the proofs of hearing share.
-mod Phases

@@ -1,2 +1,0 @@
--- What the proofs of the C surface share.
-mod Surface

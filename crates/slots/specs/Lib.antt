@@ -1,0 +1,2 @@
+-- Where each word of a slot stands.
+pub mod Places
