@@ -6,6 +6,7 @@ ghost use Rattle.rules.specs.Access.{replace_number, replace_rule};
 
 use refusals::{check_live, check_side_entry};
 use rules::{Handed, Header, Key, ROW_WORDS, Refusal};
+use slots::rows::set_row;
 
 #[tactic(auto, unfolding(rules::specs::Access::replace_number, rules::specs::Refusals::live_number), using(rules::proofs::Chain::chain))]
 fn check_replace(
@@ -36,7 +37,7 @@ pub fn replace(
         return Handed::refused(refusal, header);
     }
     let at = key.index as usize * ROW_WORDS;
-    rows[at..at + ROW_WORDS].copy_from_slice(side);
+    set_row(&mut rows[at..at + ROW_WORDS], 0, side);
     Handed {
         answer: Ok(()),
         header,

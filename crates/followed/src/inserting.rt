@@ -6,7 +6,7 @@ ghost use Rattle.rules.specs.Insert.{insert_links, run_number, take_number, inse
 use refusals::{astray, check_side_entry};
 use rules::steps::InsertLinks;
 use rules::{Header, LINK_WORDS, ROW_WORDS, Refusal};
-use slots::words::{next, other_end};
+use slots::words::{next, other_end, vacant};
 
 pub fn insert_links(links: &[u32], used: u32) -> InsertLinks
     ensures { result ≡ insert_links links.now used }
@@ -25,7 +25,7 @@ fn check_run(links: &[u32], header: Header, x: InsertLinks) -> Result<(), Refusa
     ensures { number_in result ≡ run_number passes links.now header x }
 {
     let used = header.used;
-    if astray(links, used, x.h) || astray(links, used, x.b) || x.b < x.h {
+    if !vacant(links, used, x.h) || !vacant(links, used, x.b) || x.b < x.h {
         return Err(Refusal::Damaged);
     }
     if other_end(links, used, x.b) != x.h {

@@ -1,10 +1,10 @@
--- A row set in a table, and copied into it; how long a row is that is handed back by value. Assumes nothing.
+-- A row set in a table, copied into it, and set in a part that is one row long; how long a row is that is handed back by value. Assumes nothing.
 use Prim.Native.Nat.{ℕ, ◌+◌, ◌-◌, ◌*◌, ◌≤◌}
-use mathlib.Core.List.{List, append_assoc}
-use mathlib.Core.Path.{◌≡◌, refl}
+use mathlib.Core.List.{List, ◌++◌, append_assoc, append-nil}
+use mathlib.Core.Path.{◌≡◌, refl, ap, ◌∙◌}
 use native.Mathlib.Nat.{add-sub_cancel_left}
 use native.Mathlib.Omega.{arith}
-use lib.ListN.{length, length-take, length-drop}
+use lib.ListN.{length, take, drop_of_length-le, length-take, length-drop}
 use lib.Dec.{eqb, ltb}
 use lib.Seq.{take_all, drop-drop, paste}
 use borrow.Rule.Slice.PartMut.{put_mid}
@@ -29,6 +29,14 @@ pub copied_in : (r : List ℕ) (i : ℕ) (s : List ℕ) → length s ≡ row_wor
     put_mid (i * row_words) (i * row_words + row_words - i * row_words) r s ≡ set_row r i s
 copied_in r i s h j =
     simp (add-sub_cancel_left, drop-drop, set_row_lem r i s h j, take_all row_words s (omega arith), append_assoc)
+
+-- a row set in a part of one row is the part
+pub set_whole_row : (part s : List ℕ) → length s ≡ row_words → length part ≡ row_words → set_row part 0 s ≡ s
+set_whole_row part s e h =
+    set_row_lem part 0 s e (omega arith)
+    ∙ ap (λ (w : List ℕ). take row_words s ++ w) (drop_of_length-le part {i = row_words} (omega arith))
+    ∙ append-nil (take row_words s)
+    ∙ take_all row_words s (omega arith)
 
 -- the rows that a look and a removal hand back by value have eight words
 pub row_length : (r : List ℕ) (used i : ℕ) → length (row_at r used i) ≡ row_words

@@ -20,8 +20,8 @@ fn link(links: &[u32], used: u32, i: u32, word: Word) -> u32
     ensures { result ≡ link_at links.now used i (place_of word) }
 {
     let at = i as usize * LINK_WORDS + word as usize;
-    if i < used && at < links.len() {
-        links[at]
+    if i < used {
+        links.get(at).copied().unwrap_or(0)
     } else {
         0
     }

@@ -1,0 +1,2 @@
+-- What the proofs of access share.
+mod Part
