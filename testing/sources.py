@@ -47,3 +47,13 @@ def brought(source):
         for name in re.findall(r"[^\s,]+", names):
             found[name] = f"{found[name]} and {module}" if name in found else module
     return found
+
+
+def upper(name):
+    """The name of a constant for that of a variant: `NOT_LIVE` for `NotLive`."""
+    return re.sub(r"(?<=[a-z])(?=[A-Z])", "_", name).upper()
+
+
+def numbered(source):
+    """The variants of an enum that are given a number, by the names of constants."""
+    return {upper(name): number for name, number in re.findall(r"^    (\w+) = (\d+),$", source, re.M)}

@@ -37,17 +37,25 @@ onto_after xs b bs x =
     ap (λ (ys : List ℕ). preceded ys (course t.run bs)) (append_assoc xs x.said (reply_of t))
     ∙ sym (before_before xs (x.said ++ reply_of t) (course t.run bs))
 
+-- a byte that comes waits for the walk that is under way
+onto_walked : (s : Run) (b : ℕ) (bs : List ℕ) → course s (b ∷ bs) ≡ onto b bs (walked_out s)
+onto_walked s b bs = refl
+
 -- in a walk its next step is replied to first
 pub walk_first : (s : Run) (c : ℕ) → s.stream.phase ≡ Phase.Walking c → (bs : List ℕ) →
     course s bs ≡ preceded (reply_of (walk_turn s c)) (course (walk_turn s c).run bs)
 walk_first s c e [] = walked_out_step s c e
 walk_first s c e (b ∷ bs) =
-    ap (onto b bs) (walked_out_step s c e) ∙ onto_after (reply_of (walk_turn s c)) b bs (walked_out (walk_turn s c).run)
+    let t = walk_turn s c in
+    onto_walked s b bs
+    ∙ ap (onto b bs) (walked_out_step s c e)
+    ∙ onto_after (reply_of t) b bs (walked_out t.run)
+    ∙ ap (preceded (reply_of t)) (sym (onto_walked t.run b bs))
 
 -- else the next byte is
 pub byte_first : (s : Run) → walks_in s.stream.phase ≡ false → (b : ℕ) (bs : List ℕ) →
     course s (b ∷ bs) ≡ preceded (reply_of (heard s b)) (course (heard s b).run bs)
-byte_first s h b bs = ap (onto b bs) (walked_out_still s h)
+byte_first s h b bs = onto_walked s b bs ∙ ap (onto b bs) (walked_out_still s h)
 
 -- after the end a byte changes nothing, and nothing is replied
 pub unheard : (s : Run) → s.stream.phase ≡ Phase.Ended → (b : ℕ) → heard s b ≡ calm s Phase.Ended Saying.Silent
