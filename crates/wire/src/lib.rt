@@ -1,7 +1,7 @@
 // The bytes of the command stream: the kinds of commands, words as bytes, and what may be replied, which the crate replies writes.
 #![tactic(auto)]
 
-mod commands;
+mod kinds;
 pub mod words;
 
 use rules::Key;
