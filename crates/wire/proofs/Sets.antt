@@ -9,7 +9,7 @@ use lib.ListN.{length, set, take, get_or}
 use lib.Seq.{sets, length-sets, sets-eq, take-suc, length-take-le, drop-drop}
 use borrow.Rule.Slice.PartMut.{put_mid}
 use Rattle.wire.specs.Words.{bytes_of, words_bytes}
-use Rattle.wire.proofs.Lengths.{length_bytes, length_key_bytes, length_words_bytes}
+use Rattle.wire.proofs.Lengths.{length_words_bytes, lengths}
 
 -- the first list and then the second, from where the first ends
 pub sets_append : (l : List ℕ) (i : ℕ) (vs ws : List ℕ) → sets l i (vs ++ ws) ≡ sets (sets l i vs) (i + length vs) ws
@@ -38,4 +38,4 @@ copied l i n vs h j =
     (sym (rw h at (sets-eq vs l i (omega arith))))
 
 -- what the code that writes replies needs of stores
-pub ruleset stores = (sets_append, length-sets, length_bytes, length_key_bytes, length_words_bytes)
+pub ruleset stores = (sets_append, length-sets, lengths)
