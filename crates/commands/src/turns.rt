@@ -1,5 +1,6 @@
 // One function for each command, and one for a step of a walk.
 ghost use Rattle.std.specs.Prelude.{◌≡◌, MatchResult};
+ghost use Rattle.rules.specs.Words.{zero_row};
 ghost use Rattle.rules.specs.Refusals.{number_of};
 ghost use Rattle.wire.specs.declared.Saying.{Saying};
 ghost use Rattle.commands.specs.Turns.{run_of, turned, calmly, insert_turn, remove_turn, show_turn, look_turn, clear_turn, walk_turn, command_turn};
@@ -21,67 +22,60 @@ pub fn calm(s: Stream, phase: Phase, saying: Saying) -> Turn
     }
 }
 
-// What a call gave is said as told, and a refusal by its number.
-fn said<T, F: FnOnce(T) -> Saying>(answer: Result<T, Refusal>, say: F) -> Saying
-    requires { F.IsAlwaysCallable say }
-    ensures { MatchResult answer (λ given. F.post say given result) (λ refusal. result ≡ Saying.Refused (number_of refusal)) }
+// What a call leaves, where it hands no row out.
+fn rowless<T>(handed: Handed<T>) -> HandedRow<T>
+    ensures { result ≡ record { answer = handed.answer; row = zero_row; header = handed.header } }
 {
-    match answer {
+    HandedRow {
+        answer: handed.answer,
+        row: [0; ROW_WORDS],
+        header: handed.header,
+    }
+}
+
+// The turn of a call: what it gave is said as told, a refusal by its number.
+fn turn<T, F: FnOnce(T) -> Saying>(s: Stream, phase: Phase, handed: HandedRow<T>, say: F) -> Turn
+    requires { F.IsAlwaysCallable say }
+    ensures stream_value { result.stream ≡ record { header = handed.header; phase = phase; body = s.body } }
+    ensures said { MatchResult handed.answer (λ given. F.post say given result.saying) (λ refusal. result.saying ≡ Saying.Refused (number_of refusal)) }
+    ensures row_value { result.row ≡ handed.row }
+{
+    let HandedRow {
+        answer,
+        row,
+        header,
+    } = handed;
+    let saying = match answer {
         Ok(given) => say(given),
-        Err(refusal) => Saying::Refused(u32::from(refusal)),
+        Err(refusal) => Saying::from(refusal),
+    };
+    Turn {
+        stream: Stream { header, phase, ..s },
+        saying,
+        row,
     }
 }
 
 fn insert_turn(links: &mut [u32], rows: &mut [u32], s: Stream) -> Turn
     ensures { turned result links.new rows.new ≡ insert_turn (run_of links.old rows.old s) }
 {
-    let side = row_in(&s.body);
-    let Handed { answer, header } = hop::insert(links, rows, s.header, &side);
-    Turn {
-        stream: Stream {
-            header,
-            phase: Phase::Between,
-            ..s
-        },
-        saying: said(answer, Saying::WithKey),
-        row: [0; ROW_WORDS],
-    }
+    let inserted = hop::insert(links, rows, s.header, &row_in(&s.body));
+    turn(s, Phase::Between, rowless(inserted), Saying::WithKey)
 }
 
 fn remove_turn(links: &mut [u32], rows: &mut [u32], s: Stream) -> Turn
     ensures { turned result links.new rows.new ≡ remove_turn (run_of links.old rows.old s) }
 {
-    let key = key_in(&s.body);
-    let HandedRow {
-        answer,
-        row,
-        header,
-    } = hop::remove(links, rows, s.header, key);
-    Turn {
-        stream: Stream {
-            header,
-            phase: Phase::Between,
-            ..s
-        },
-        saying: said(answer, Saying::WithRow),
-        row,
-    }
+    let removed = hop::remove(links, rows, s.header, key_in(&s.body));
+    turn(s, Phase::Between, removed, Saying::WithRow)
 }
 
 // A key and its row are shown, and the stream goes on in a phase.
 fn show_turn(links: &[u32], rows: &[u32], s: Stream, phase: Phase, key: Key) -> Turn
     ensures { turned result links.now rows.now ≡ show_turn (run_of links.now rows.now s) phase key }
 {
-    let HandedRow {
-        answer,
-        row,
-        header,
-    } = look_row(links, rows, s.header, key);
-    Turn {
-        stream: Stream { header, phase, ..s },
-        saying: said(answer, Saying::WithRow),
-        row,
-    }
+    let shown = look_row(links, rows, s.header, key);
+    turn(s, phase, shown, Saying::WithRow)
 }
 
 fn look_turn(links: &[u32], rows: &[u32], s: Stream) -> Turn
@@ -94,16 +88,8 @@ fn look_turn(links: &[u32], rows: &[u32], s: Stream) -> Turn
 fn clear_turn(links: &mut [u32], rows: &mut [u32], s: Stream) -> Turn
     ensures { turned result links.new rows.new ≡ clear_turn (run_of links.old rows.old s) }
 {
-    let Handed { answer, header } = hop::clear(links, rows, s.header);
-    Turn {
-        stream: Stream {
-            header,
-            phase: Phase::Between,
-            ..s
-        },
-        saying: said(answer, |()| Saying::Done),
-        row: [0; ROW_WORDS],
-    }
+    let cleared = hop::clear(links, rows, s.header);
+    turn(s, Phase::Between, rowless(cleared), |()| Saying::Done)
 }
 
 // One step of a walk, from its cursor.
@@ -113,7 +99,7 @@ pub fn walk_turn(links: &[u32], rows: &[u32], s: Stream, cursor: Cursor) -> Turn
     match hop::hop_step(links, rows, s.header, cursor).answer {
         Ok(HopAnswer::Visited(key, next)) => show_turn(links, rows, s, Phase::Walking(next), key),
         Ok(HopAnswer::Done) => calm(s, Phase::Between, Saying::Done),
-        Err(refusal) => calm(s, Phase::Between, Saying::Refused(u32::from(refusal))),
+        Err(refusal) => calm(s, Phase::Between, Saying::from(refusal)),
     }
 }
 
@@ -127,10 +113,6 @@ pub fn command_turn(links: &mut [u32], rows: &mut [u32], s: Stream, command: Com
         Command::Look => look_turn(links, rows, s),
         Command::Clear => clear_turn(links, rows, s),
         Command::Walk => calm(s, Phase::Walking(0), Saying::Silent),
-        Command::Unknown => calm(
-            s,
-            Phase::Ended,
-            Saying::Refused(u32::from(Refusal::BrokenStream)),
-        ),
+        Command::Unknown => calm(s, Phase::Ended, Saying::from(Refusal::BrokenStream)),
     }
 }

@@ -66,11 +66,7 @@ pub fn ended(s: Stream) -> Turn
     ensures { result ≡ ended_in s.phase s }
 {
     match s.phase {
-        Phase::Gathering(_, _) => calm(
-            s,
-            Phase::Ended,
-            Saying::Refused(u32::from(Refusal::BrokenStream)),
-        ),
+        Phase::Gathering(_, _) => calm(s, Phase::Ended, Saying::from(Refusal::BrokenStream)),
         Phase::Between | Phase::Walking(_) | Phase::Ended => calm(s, s.phase, Saying::Silent),
     }
 }

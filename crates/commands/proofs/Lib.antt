@@ -1,0 +1,2 @@
+-- What is known of a turn beside its tables.
+pub mod Spoken
