@@ -59,6 +59,10 @@ waits_in (Phase.Gathering k got) more = more
 waits_in (Phase.Walking c) more = true
 waits_in Phase.Ended more = false
 
+-- the same of a piece of so many bytes, for the code's Progress and for a feeding
+abbrev pub waiting : ℕ → Progress → Bool
+waiting n x = waits_in x.stream.phase (ltb x.taken n)
+
 unfoldable pub waits : ℕ → Feeding → Bool
 waits n f = waits_in (phase_of f) (ltb f.taken n)
 

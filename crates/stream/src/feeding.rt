@@ -1,9 +1,9 @@
 // A piece of the input, turn after turn.
-ghost use Rattle.std.specs.Prelude.{◌≡◌, true, ◌<◌, length, ltb};
+ghost use Rattle.std.specs.Prelude.{◌≡◌, true, ◌<◌, length};
 ghost use Rattle.rules.specs.Choice.{both};
 ghost use Rattle.wire.specs.Replies.{saying_bytes, fits, replied, replied_to};
 ghost use Rattle.commands.specs.Turns.{run_of};
-ghost use Rattle.stream.specs.Feeding.{feeding, heard_once, fed_once, waits_in, fed, begun, fed_whole, feed_rule, finish_rule};
+ghost use Rattle.stream.specs.Feeding.{feeding, heard_once, fed_once, waiting, fed, begun, fed_whole, feed_rule, finish_rule};
 
 use crate::Fed;
 use crate::refusing::check_feed;
@@ -56,7 +56,7 @@ fn fed_once(
     out: &mut [u8],
     f: Progress,
 ) -> Progress
-    requires { waits_in f.stream.phase (ltb f.taken (length input.now)) ≡ true }
+    requires { waiting (length input.now) f ≡ true }
     ensures { feeding result links.new rows.new out.new ≡ fed_once input.now (feeding f links.old rows.old out.old) }
 {
     match f.stream.phase {
@@ -72,7 +72,7 @@ fn fed_once(
 
 // Whether something is to be done with so many bytes of input: a byte to hear, or a walk to go on with.
 fn waits(f: Progress, n: usize) -> bool
-    ensures { result ≡ waits_in f.stream.phase (ltb f.taken n) }
+    ensures { result ≡ waiting n f }
 {
     match f.stream.phase {
         Phase::Between | Phase::Gathering(_, _) => f.taken < n,
@@ -83,7 +83,7 @@ fn waits(f: Progress, n: usize) -> bool
 
 // Whether a turn is to come, and any reply has room.
 fn going(f: Progress, n: usize, room: usize) -> bool
-    ensures { result ≡ both (fits room f.written) (waits_in f.stream.phase (ltb f.taken n)) }
+    ensures { result ≡ both (fits room f.written) (waiting n f) }
 {
     fits(room, f.written) && waits(f, n)
 }
@@ -111,7 +111,7 @@ fn fed_whole(
 
 // What a piece of so many bytes hands back.
 fn piece(f: Progress, n: usize) -> Fed
-    ensures { result ≡ record { taken = f.taken; written = f.written; waits = waits_in f.stream.phase (ltb f.taken n); stream = f.stream } }
+    ensures { result ≡ record { taken = f.taken; written = f.written; waits = waiting n f; stream = f.stream } }
 {
     Fed {
         taken: f.taken,
