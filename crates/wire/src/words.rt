@@ -4,6 +4,7 @@ ghost use Rattle.wire.specs.Words.{word_at, key_in, row_in};
 
 use crate::Body;
 use rules::{Key, Row};
+use std::array;
 
 // The word whose low byte is byte a of the body.
 #[tactic(auto, unfolding(crate::specs::Words::word_at))]
@@ -30,14 +31,5 @@ pub fn key_in(body: &Body) -> Key
 pub fn row_in(body: &Body) -> Row
     ensures { result ≡ row_in body.now }
 {
-    [
-        word(body, 0),
-        word(body, 4),
-        word(body, 8),
-        word(body, 12),
-        word(body, 16),
-        word(body, 20),
-        word(body, 24),
-        word(body, 28),
-    ]
+    array::from_fn(|k| word(body, 4 * k))
 }
