@@ -3,7 +3,7 @@ ghost use Rattle.std.specs.Prelude.{◌≡◌};
 ghost use Rattle.replay.specs.declared.language.Call.{Call};
 
 use crate::language::Call;
-use crate::numbers::{Numbers, Side};
+use crate::numbers::{Numbers, side};
 use crate::outcome::{Outcome, Told};
 use crate::words::count_from;
 use hop::{Header, Key, Row};
@@ -38,11 +38,11 @@ impl Lent<'_> {
                 Told::new(look_mut(links, rows, header, key, numbers.at(2)), header)
             }
             Call::Replace => {
-                let side = Side::new(numbers.at(2), numbers.at(3));
+                let side = side(numbers.at(2), numbers.at(3));
                 Told::from(hop::replace(links, rows, header, key, side.as_slice()))
             }
             Call::Insert => {
-                let side = Side::new(numbers.at(0), numbers.at(1));
+                let side = side(numbers.at(0), numbers.at(1));
                 Told::from(hop::insert(links, rows, header, side.as_slice()))
             }
             Call::Remove => Told::from(hop::remove(links, rows, header, key)),

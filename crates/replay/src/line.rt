@@ -1,7 +1,9 @@
 // The answered line, in fixed memory.
-ghost use Rattle.std.specs.Prelude.{◌≡◌, ◌+◌, ◌-◌, ◌≤◌, ◌<◌, ◌++◌, length, take};
+ghost use Rattle.std.specs.Prelude.{◌≡◌, ◌-◌, ◌≤◌, ◌<◌, [], ◌++◌, length};
+ghost use Rattle.arrayvec.specs.ArrayVec.{array_vec_len};
 ghost use Rattle.replay.specs.declared.line.TheConstants.{LINE};
 
+use arrayvec::ArrayVec;
 use std::fmt;
 
 // The most bytes of one answered line.
@@ -10,44 +12,36 @@ const LINE: usize = 65536;
 // Takes piece by piece; a piece that does not fit is dropped, whole.
 #[derive(Drop)]
 pub(crate) struct Line {
-    bytes: [u8; LINE],
-    end: usize,
-    ghost within: { end ≤ LINE },
+    bytes: ArrayVec<u8, LINE>,
 }
 
 impl Line {
     pub(crate) fn new() -> Line
-        ensures { result.end ≡ 0 }
+        ensures { result.bytes.items ≡ [] }
     {
         Line {
-            bytes: [0; LINE],
-            end: 0,
+            bytes: ArrayVec::new(),
         }
     }
 
     pub(crate) fn clear(&mut self)
-        ensures { self.new.end ≡ 0 }
+        ensures { self.new.bytes.items ≡ [] }
     {
-        self.end = 0;
+        self.bytes.clear();
     }
 
     pub(crate) fn as_bytes(&self) -> &[u8]
-        ensures { result.now ≡ take self.now.end self.now.bytes }
+        ensures { result.now ≡ self.now.bytes.items }
     {
-        &self.bytes[..self.end]
+        self.bytes.as_slice()
     }
 
     // One piece.
     pub(crate) fn put(&mut self, piece: &[u8])
-        ensures dropped { LINE - self.old.end < length piece.now → self.new.end ≡ self.old.end }
-        ensures taken { length piece.now ≤ LINE - self.old.end → self.new.end ≡ self.old.end + length piece.now }
-        ensures bytes { take self.new.end self.new.bytes ≡ take self.old.end self.old.bytes ++ take (self.new.end - self.old.end) piece.now }
+        ensures dropped { LINE - array_vec_len self.old.bytes < length piece.now → self.new ≡ self.old }
+        ensures taken { length piece.now ≤ LINE - array_vec_len self.old.bytes → self.new.bytes.items ≡ self.old.bytes.items ++ piece.now }
     {
-        if piece.len() <= LINE - self.end {
-            let end = self.end + piece.len();
-            self.bytes[self.end..end].copy_from_slice(piece);
-            self.end = end;
-        }
+        let _ = self.bytes.try_extend_from_slice(piece);
     }
 }
 

@@ -49,7 +49,7 @@ impl Table {
     // A setting reaches the whole tables.
     pub(crate) fn set(&mut self, setting: Setting, numbers: &Numbers)
         ensures lent { setting ≢ Setting.Lend → self.new.lent_links ≡ self.old.lent_links }
-        ensures header { setting ≡ Setting.Header → self.new.header ≡ record { used = slice_index numbers.now.words 0; live = slice_index numbers.now.words 1 } }
+        ensures header { setting ≡ Setting.Header → self.new.header ≡ record { used = slice_index numbers.now.words.items 0; live = slice_index numbers.now.words.items 1 } }
     {
         match setting {
             Setting::Lend => self.lend(numbers),
@@ -78,8 +78,8 @@ impl Table {
     {
         let at = numbers.at(0) as usize * LINK_WORDS;
         let words = part(numbers.as_slice(), 1, LINK_WORDS);
-        if words.len() == LINK_WORDS && at + LINK_WORDS <= LINKS {
-            self.links[at..at + LINK_WORDS].copy_from_slice(words);
+        if let Some(links) = self.links.get_mut(at..at + words.len()) {
+            links.copy_from_slice(words);
         }
     }
 
@@ -174,7 +174,7 @@ fn set_row(rows: &mut [u32], slot: u32, word: u32)
     ensures { length rows.new ≡ length rows.old }
 {
     let at = slot as usize * ROW_WORDS;
-    if at + ROW_WORDS <= rows.len() {
-        count_from(word, &mut rows[at..at + ROW_WORDS]);
+    if let Some(row) = rows.get_mut(at..at + ROW_WORDS) {
+        count_from(word, row);
     }
 }

@@ -5,18 +5,17 @@ ghost use Rattle.std.specs.Prelude.{◌≡◌, ◌≤◌, length, slice_index};
 pub(crate) fn word_at(words: &[u32], place: usize) -> u32
     ensures { result ≡ slice_index words.now place }
 {
-    if place < words.len() { words[place] } else { 0 }
+    words.get(place).copied().unwrap_or(0)
 }
 
 // Words of a table; none where they are not all there.
 pub(crate) fn part(words: &[u32], from: usize, count: usize) -> &[u32]
     ensures { length result.now ≤ count }
 {
-    if from <= words.len() && count <= words.len() - from {
-        &words[from..from + count]
-    } else {
-        &[]
-    }
+    words
+        .get(from..)
+        .and_then(|rest| rest.get(..count))
+        .unwrap_or(&[])
 }
 
 // The first word, and after each word the next number; they wrap.
