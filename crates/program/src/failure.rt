@@ -4,6 +4,8 @@ use std::fmt;
 
 #[derive(Clone, Copy, Debug, PartialEq, Eq)]
 pub enum Failure {
+    // The program's tables are not refused (starts, of the proofs).
+    Start,
     Read,
     Write,
     // No piece is refused (never_refused, of the laws of `course`).
@@ -13,6 +15,9 @@ pub enum Failure {
 impl fmt::Display for Failure {
     fn fmt<W: fmt::Write>(&self, f: &mut fmt::Formatter<W>) -> fmt::Result {
         f.write_str(match self {
+            Failure::Start => {
+                "program: the tables were refused, which is a fault of the program; nothing was read"
+            }
             Failure::Read => {
                 "program: reading standard input failed; the replies so far are complete"
             }

@@ -4,7 +4,7 @@
 
 mod failure;
 
-ghost use Rattle.std.specs.Prelude.{◌≡◌, ◌+◌, ◌≤◌, ◌<◌, ◌^◌, IfOk, min, length};
+ghost use Rattle.std.specs.Prelude.{◌≡◌, ◌+◌, ◌≤◌, ◌<◌, ◌^◌, Ok, IfOk, min, length};
 ghost use Rattle.rules.specs.Start.{start_rule};
 ghost use Rattle.history.specs.Histories.{left};
 ghost use Rattle.commands.specs.Turns.{run_of};
@@ -36,24 +36,18 @@ enum Next {
 }
 
 // An empty map of the tables, and the stream before its first byte. Start looks at no old header: any will do.
-fn start_map(links: &mut [u32], rows: &mut [u32]) -> Stream
-    requires links_len { length links.old ≡ 4096 }
-    requires rows_len { length rows.old ≡ 8192 }
-    ensures value { result ≡ opening }
-    ensures header_after { record { links = links.new; rows = rows.new; header = result.header } ≡ left (start_rule links.old rows.old (record { used = 0; live = 0 })) }
+fn start_map(links: &mut [u32; LINKS], rows: &mut [u32; ROWS]) -> Result<Stream, Failure>
+    ensures value { result ≡ Ok opening }
+    ensures header_after { IfOk result (λ stream. record { links = links.new; rows = rows.new; header = stream.header } ≡ left (start_rule links.old rows.old (record { used = 0; live = 0 }))) }
 {
     let made = hop::start(links, rows, Header { used: 0, live: 0 });
-    made.answer.unwrap();
-    stream::opened(made.header)
+    made.answer.map_err(|_| Failure::Start)?;
+    Ok(stream::opened(made.header))
 }
 
-// Writes what was replied: the first bytes of the output, as many as were written to it.
-fn write_reply(rt: HostRuntime, out: &[u8], written: usize) -> Result<(), Failure>
-    requires { written ≤ length out.now }
-{
-    rt.stdout()
-        .write_all(&out[..written])
-        .map_err(|_| Failure::Write)
+// Writes what was replied.
+fn write_reply(rt: HostRuntime, reply: &[u8]) -> Result<(), Failure> {
+    rt.stdout().write_all(reply).map_err(|_| Failure::Write)
 }
 
 // What comes after a piece: what was taken of it is past, and after the end of the stream nothing is read any more.
@@ -96,7 +90,7 @@ fn feed_rest(
         |_| Failure::Refused,
     )?;
     *stream = fed.stream;
-    write_reply(rt, out, fed.written)?;
+    write_reply(rt, &out[..fed.written])?;
     Ok(next_after(at, end, fed))
 }
 
@@ -130,7 +124,7 @@ fn finish(
     stream: Stream,
 ) -> Result<(), Failure> {
     let fed = stream::finish(links, rows, stream, out).map_err(|_| Failure::Refused)?;
-    write_reply(rt, out, fed.written)
+    write_reply(rt, &out[..fed.written])
 }
 
 // Round after round. A proved loop has to end, and nothing says that the input does: no run uses up so many rounds.
@@ -156,13 +150,17 @@ fn serve(
     Ok(())
 }
 
-fn main(rt: HostRuntime) {
+fn run(rt: HostRuntime) -> Result<(), Failure> {
     let mut links = [0; LINKS];
     let mut rows = [0; ROWS];
     let mut input = [0; BUFFER];
     let mut out = [0; BUFFER];
-    let mut stream = start_map(&mut links, &mut rows);
-    if let Err(failure) = serve(rt, &mut links, &mut rows, &mut input, &mut out, &mut stream) {
+    let mut stream = start_map(&mut links, &mut rows)?;
+    serve(rt, &mut links, &mut rows, &mut input, &mut out, &mut stream)
+}
+
+fn main(rt: HostRuntime) {
+    if let Err(failure) = run(rt) {
         // Where that fails too, nobody is left to be told.
         let _ = rt.eprintln(failure);
     }
