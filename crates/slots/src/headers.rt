@@ -16,8 +16,8 @@ pub fn one_more(header: Header) -> Header
     ensures { result ≡ record { used = header.used; live = rise header.live } }
 {
     Header {
-        used: header.used,
         live: header.live.wrapping_add(1),
+        ..header
     }
 }
 
@@ -36,8 +36,8 @@ pub fn one_less(header: Header) -> Header
     ensures { result ≡ one_less header }
 {
     Header {
-        used: header.used,
         live: header.live.saturating_sub(1),
+        ..header
     }
 }
 
