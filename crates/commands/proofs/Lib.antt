@@ -1,2 +1,2 @@
--- What is known of a turn beside its tables.
+-- What is known of a turn, with its call and beside its tables.
 pub mod Spoken

@@ -1,0 +1,2 @@
+-- What is known of a body and of a phase.
+mod Phases

@@ -1,0 +1,2 @@
+-- What is known of what the C surface answers.
+mod Surface
