@@ -9,12 +9,13 @@ ghost use Rattle.rules.specs.Runs.{past_front, is_front, is_back, run_count, odd
 
 use slots::words::{vacant, version};
 
-// Slot i is vacant, and so is the one before it.
+// Slot i is vacant, and so is the one before it; before slot 0 the number wraps, and no such slot is in use. Here and in is_front `&` asks both without
+// a branch: which slots are vacant is no pattern that a processor could guess.
 #[tactic(auto, unfolding(rules::specs::Runs::past_front, rules::specs::Words::vacant_at))]
 pub fn past_front(links: &[u32], used: u32, i: u32) -> bool
     ensures { result ≡ past_front (version_at links.now used) used i }
 {
-    vacant(links, used, i) && 0 < i && vacant(links, used, i - 1)
+    vacant(links, used, i) & vacant(links, used, i.wrapping_sub(1))
 }
 
 // Slot i is a run's front.
@@ -22,7 +23,7 @@ pub fn past_front(links: &[u32], used: u32, i: u32) -> bool
 pub fn is_front(links: &[u32], used: u32, i: u32) -> bool
     ensures { result ≡ is_front (version_at links.now used) used i }
 {
-    vacant(links, used, i) && !past_front(links, used, i)
+    vacant(links, used, i) & !past_front(links, used, i)
 }
 
 // Slot i is a run's back.
